@@ -111,6 +111,9 @@ pub none-from-inside : (X Y : ℕ) → X ⊆ Y → X ∖ Y ≡ 0
 none-from-inside X Y f =
     ⊆-antisym _ _ (λ i h. let d = ∈-∖ X Y i .0 h in absurd (d .1 (f i (d .0)))) (empty-⊆ (X ∖ Y))
 
+pub ⊆-dec : (X Y : ℕ) → Dec (X ⊆ Y)
+⊆-dec X Y = elim (ℕ-discrete (X ∖ Y) 0) [ yes z ↦ yes (inside-from-none X Y z) | no n ↦ no (λ f. n (none-from-inside X Y f)) ]
+
 -- ---- single items
 
 pub ∈-only : (i : ℕ) → Members (2 ^ i) (λ j. j ≡ i)
@@ -165,6 +168,20 @@ with-without X i h =
     go : (j : ℕ) → j ∈ X → Dec (j ≡ i) → j ∈ (X ⊖ i) ⊕ i
     go j k (yes e) = ∈-with (X ⊖ i) i j .1 (inr e)
     go j k (no ne) = ∈-with (X ⊖ i) i j .1 (inl (∈-without X i j .1 (k, ne)))
+
+-- a union with one item more on the right
+pub ∪-with : (K J i : ℕ) → K ∪ (J ⊕ i) ≡ (K ∪ J) ⊕ i
+∪-with K J i =
+    ⊆-antisym _ _
+    (∪-⊆ K (J ⊕ i) ((K ∪ J) ⊕ i)
+      (⊆-trans K (K ∪ J) ((K ∪ J) ⊕ i) (⊆-∪-left K J) (⊆-with (K ∪ J) i))
+      (with-⊆ J i ((K ∪ J) ⊕ i) (⊆-trans J (K ∪ J) ((K ∪ J) ⊕ i) (⊆-∪-right K J) (⊆-with (K ∪ J) i)) (with-has (K ∪ J) i)))
+    (with-⊆ (K ∪ J) i (K ∪ (J ⊕ i))
+      (∪-⊆ K J (K ∪ (J ⊕ i)) (⊆-∪-left K (J ⊕ i)) (⊆-trans J (J ⊕ i) (K ∪ (J ⊕ i)) (⊆-with J i) (⊆-∪-right K (J ⊕ i))))
+      (⊆-∪-right K (J ⊕ i) i (with-has J i)))
+
+pub ∪-none : (K : ℕ) → K ∪ 0 ≡ K
+∪-none K = ⊆-antisym _ _ (∪-⊆ K 0 K (⊆-refl K) (empty-⊆ K)) (⊆-∪-left K 0)
 
 -- the lowest bit that is set is the least item
 pub trailing-least : (k X : ℕ) → (X ≡ 0 → ⊥) → X < 2 ^ k → Least X (trailingZeros k X)

@@ -10,6 +10,7 @@ use Rattle.refusals.specs.Report.{Report, says}
 use Rattle.refusals.specs.declared.Layer.the-variants.{Record}
 use Rattle.records.specs.declared.Kind.{Kind}
 use Rattle.records.specs.declared.Kind.the-variants.{Clauses, Orders}
+use Rattle.records.specs.declared.Trailer.{Trailer}
 
 -- ---- what sets the kinds of table apart
 
@@ -84,6 +85,12 @@ place b of-distance = trailer b + 4
 -- the trailer is right
 abbrev pub Right : Kind → List ℕ → Type 0
 Right k b = (c : Check) → Asks k b c
+
+-- t is what a right trailer says
+pub record Says (k : Kind) (b : List ℕ) (t : Trailer) : Type 0 where
+  pub right : Right k b
+  pub same-items : t .items ≡ items b
+  pub same-rows : t .rows ≡ rows b
 
 -- the trailer is refused: for the first check that fails
 pub record Refused (k : Kind) (b : List ℕ) (told : Report) : Type 0 where

@@ -2,7 +2,7 @@
 ghost use mathlib.Core.Path.{_≡_};
 ghost use Rattle.std.specs.Results.{Cases};
 ghost use Rattle.refusals.specs.Report.{report};
-ghost use Rattle.records.specs.Format.{code, Right, Refused, items, rows};
+ghost use Rattle.records.specs.Format.{code, Says, Refused};
 ghost use Rattle.records.specs.Format.{most-rows as most, row-length as row-bytes};
 use refusals::Refusal;
 
@@ -53,7 +53,7 @@ pub struct Trailer {
 
 impl Trailer {
     pub fn read(bytes: &[u8], kind: Kind) -> Result<Trailer, Refusal>
-        ensures { λ r. ⌜ Cases r (λ t. Right kind (now (bytes .entry)) × (t .items ≡ items (now (bytes .entry))) × (t .rows ≡ rows (now (bytes .entry)))) (λ e. Refused kind (now (bytes .entry)) (report e)) ⌝ }
+        ensures { λ r. ⌜ Cases r (Says kind (now (bytes .entry))) (λ e. Refused kind (now (bytes .entry)) (report e)) ⌝ }
     {
         let [.., code, items, r0, r1, d0, d1, d2, d3] = bytes else {
             return Err(Refusal::ShortRecord(bytes.len() as u64));

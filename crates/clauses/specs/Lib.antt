@@ -1,0 +1,4 @@
+pub mod Building
+pub mod Clauses
+pub mod Loading
+pub mod Tables

@@ -1,0 +1,12 @@
+// Clause tables: which skill needs which others.
+mod build;
+mod clause;
+mod list;
+mod load;
+mod rows;
+mod space;
+mod table;
+
+pub use clause::Clause;
+pub use space::ClauseTableSpace;
+pub use table::ClauseTable;
