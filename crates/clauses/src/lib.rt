@@ -6,6 +6,8 @@ mod load;
 mod rows;
 mod space;
 mod table;
+#[cfg(test)]
+mod tests;
 
 pub use clause::Clause;
 pub use space::ClauseTableSpace;

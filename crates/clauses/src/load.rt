@@ -39,6 +39,13 @@ impl ClauseTable {
         Ok(())
     }
 
+    // How many clauses there are.
+    pub fn row_count(&self) -> usize
+        ensures { λ r. ⌜ r ≡ now (self .entry) .list .len ⌝ }
+    {
+        self.list.len
+    }
+
     // The table of these clauses, or the refusal of the least item that no set they build has.
     fn of(list: ClauseList) -> Result<ClauseTable, Refusal>
         ensures { λ r. ⌜ Cases r (λ t. (t .list ≡ list) × ((i : ℕ) → i < list .items → Reachable (list .items) (list .len) (at (list .clauses)) i)) (λ e. (i : ℕ) × LeastUnreachable (list .items) (list .len) (at (list .clauses)) i × (report e ≡ says 8 Table i)) ⌝ }

@@ -86,6 +86,10 @@ place b of-distance = trailer b + 4
 abbrev pub Right : Kind → List ℕ → Type 0
 Right k b = (c : Check) → Asks k b c
 
+-- the record is long enough to have a kind, and its kind is k
+abbrev pub OfKind : List ℕ → Kind → Type 0
+OfKind b k = (8 ≤ length b) × (kind b ≡ code k)
+
 -- t is what a right trailer says
 pub record Says (k : Kind) (b : List ℕ) (t : Trailer) : Type 0 where
   pub right : Right k b

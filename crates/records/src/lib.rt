@@ -1,8 +1,9 @@
 // Table records: what the trailer of a record says, and the checks that every kind of table shares.
 ghost use mathlib.Core.Path.{_≡_};
+ghost use Rattle.std.specs.Options.{Cases as BySome};
 ghost use Rattle.std.specs.Results.{Cases};
 ghost use Rattle.refusals.specs.Report.{report};
-ghost use Rattle.records.specs.Format.{code, Says, Refused};
+ghost use Rattle.records.specs.Format.{code, OfKind, Says, Refused};
 ghost use Rattle.records.specs.Format.{most-rows as most, row-length as row-bytes};
 use refusals::Refusal;
 
@@ -14,6 +15,17 @@ pub enum Kind {
 }
 
 impl Kind {
+    // The kind of table that a record is of, if it says one.
+    pub fn of(bytes: &[u8]) -> Option<Kind>
+        ensures { λ r. ⌜ BySome r ((k : Kind) → OfKind (now (bytes .entry)) k → ⊥) (OfKind (now (bytes .entry))) ⌝ }
+    {
+        match bytes {
+            [.., b'C', _, _, _, _, _, _, _] => Some(Kind::Clauses),
+            [.., b'O', _, _, _, _, _, _, _] => Some(Kind::Orders),
+            _ => None,
+        }
+    }
+
     // The byte by which a record says its kind.
     pub fn code(self) -> u8
         ensures { λ r. ⌜ r ≡ code self ⌝ }
