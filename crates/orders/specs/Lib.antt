@@ -1,0 +1,4 @@
+pub mod Loading
+pub mod Orders
+pub mod Rows
+pub mod Tables
