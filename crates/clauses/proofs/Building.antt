@@ -8,7 +8,8 @@ use native.Mathlib.Decide.{ℕ-discrete}
 use native.Mathlib.Nat.{le-refl, not-suc-le-zero}
 use native.Mathlib.Omega.{arith}
 use Rattle.item_sets.specs.Sets.{_∈_, _∉_, _⊆_, _∪_, _⊕_, _⊖_}
-use Rattle.item_sets.proofs.Members.{∈-dec, ⊆-antisym, ⊆-trans, ⊆-∪-right, ∪-with, ∪-none, empty-⊆, with-has, ⊆-with, with-⊆, with-present, without-with, part-lt, ⊆-le}
+use Rattle.item_sets.proofs.Members.{∈-dec, ⊆-antisym, ⊆-trans, ⊆-∪-right, empty-⊆, with-has, ⊆-with, with-⊆, with-present, without-with, part-lt, ⊆-le}
+use Rattle.item_sets.proofs.Unions.{∪-with, ∪-empty-right}
 use Rattle.spaces.specs.Laws.{LearningSpace}
 use Rattle.clauses.specs.Building.{Built, none, add, Buildable}
 
@@ -40,7 +41,7 @@ module _ (G : ℕ) (met : ℕ → ℕ → Type 0) where
 
   module _ (stays : (i X Y : ℕ) → X ⊆ Y → met i X → met i Y) where
     pub built-joins : (K M : ℕ) → Built G met K → Built G met M → Built G met (K ∪ M)
-    built-joins K M k none = subst (Built G met) (sym (∪-none K)) k
+    built-joins K M k none = subst (Built G met) (sym (∪-empty-right K)) k
     built-joins K M k (add {K = J} b i g n m) =
         let joined = built-joins K J k b in
         elim (∈-dec i (K ∪ J))

@@ -8,11 +8,13 @@ use native.Mathlib.Omega.{arith}
 use borrow.Author.Count.{below-more}
 use Rattle.item_sets.specs.Sets.{_∈_, _⊆_, _⊕_, first}
 use Rattle.item_sets.proofs.Members.{∈-dec, ∈-first, ⊆-trans, ⊆-with, with-has, with-⊆, with-present}
+use Rattle.spaces.specs.Largest.{Largest}
+use Rattle.spaces.proofs.Theory.{largest-of}
 use Rattle.clauses.specs.declared.clause.Clause.{Clause}
 use Rattle.clauses.specs.declared.list.ClauseList.{ClauseList}
 use Rattle.clauses.specs.Building.{Built, add}
 use Rattle.clauses.specs.Clauses.{at, Right, Met, State}
-use Rattle.clauses.specs.Tables.{Builds, Largest, Pass}
+use Rattle.clauses.specs.Tables.{Builds, Pass}
 use Rattle.clauses.proofs.Building.{closed-holds}
 
 pub met-stays : (len : ℕ) (f : ℕ → Clause) (i X Y : ℕ) → X ⊆ Y → Met len f i X → Met len f i Y
@@ -52,10 +54,8 @@ module _ (l : ClauseList) (X B C m : ℕ) (p : Pass l X B C m) where
       })
 
 -- a whole pass that adds nothing
-pub pass-ends : (l : ClauseList) (X B : ℕ) → Pass l X B B (l .len) → Largest l X B
-pass-ends l X B p = record {
-    built = p .built;
-    inside = p .inside;
-    holds = closed-holds (first (l .items)) (Met (l .len) (at (l .clauses))) (met-stays (l .len) (at (l .clauses))) X B
-      (λ i g x m. subst (λ (j : ℕ). j ∈ B) (m .2) (p .swept (m .0) (m .1) (subst (λ (j : ℕ). j ∈ X) (sym (m .2)) x) (m .3)));
-  }
+pub pass-ends : (l : ClauseList) (X B : ℕ) → Pass l X B B (l .len) → Largest (Builds l) X B
+pass-ends l X B p =
+    largest-of (Builds l) X B (p .built) (p .inside)
+      (closed-holds (first (l .items)) (Met (l .len) (at (l .clauses))) (met-stays (l .len) (at (l .clauses))) X B
+        (λ i g x m. subst (λ (j : ℕ). j ∈ B) (m .2) (p .swept (m .0) (m .1) (subst (λ (j : ℕ). j ∈ X) (sym (m .2)) x) (m .3))))

@@ -9,6 +9,7 @@ use native.Mathlib.Nat.{le-refl}
 use native.Mathlib.Omega.{arith}
 use Rattle.item_sets.specs.Sets.{_∈_, _∉_, _⊆_, first, Members, Least}
 use Rattle.item_sets.proofs.Members.{∈-dec, ∈-first, ∉-empty, ⊆-antisym, ⊆-refl, ⊆-dec}
+use Rattle.spaces.specs.Largest.{Largest}
 use Rattle.spaces.specs.Laws.{LearningSpace}
 use Rattle.clauses.specs.declared.clause.Clause.{Clause}
 use Rattle.clauses.specs.declared.list.ClauseList.{ClauseList}
@@ -16,7 +17,7 @@ use Rattle.clauses.specs.declared.table.ClauseTable.{ClauseTable}
 use Rattle.clauses.specs.Building.{Built, none, add}
 use Rattle.clauses.specs.Clauses.{at, Met, State, Reachable}
 use Rattle.clauses.specs.Loading.{LeastUnreachable}
-use Rattle.clauses.specs.Tables.{Builds, Largest}
+use Rattle.clauses.specs.Tables.{Builds}
 use Rattle.clauses.proofs.Building.{some-below, whole-from-items, built-space, built-inside}
 use Rattle.clauses.proofs.Passes.{met-stays}
 
@@ -48,19 +49,14 @@ table-laws t =
           (λ i h. t .reachable i (∈-first n i .0 h));
       })
 
--- a set is a state exactly when it is the largest inside itself
-pub state-from-largest : (l : ClauseList) (X B : ℕ) → Largest l X B → (B ≡ X) ↔ Builds l X
-state-from-largest l X B p =
-    (λ e. subst (Builds l) e (p .built), λ s. ⊆-antisym B X (p .inside) (p .holds X s (⊆-refl X)))
-
 -- the items that can be reached are those of the largest buildable set B, and D holds the others
-module _ (l : ClauseList) (A B D : ℕ) (whole : A ≡ first (l .items)) (p : Largest l A B) (rest : Members D (λ i. (i ∈ A) × (i ∉ B))) where
+module _ (l : ClauseList) (A B D : ℕ) (whole : A ≡ first (l .items)) (p : Largest (Builds l) A B) (rest : Members D (λ i. (i ∈ A) × (i ∉ B))) where
   is-item : (i : ℕ) → (i ∈ A) ↔ (i < l .items)
   is-item i = subst (λ (X : ℕ). (i ∈ X) ↔ (i < l .items)) (sym whole) (∈-first (l .items) i)
 
   not-left : (i : ℕ) → i < l .items → (i ∈ D → ⊥) → Reachable (l .items) (l .len) (at (l .clauses)) i
   not-left i h n =
-      elim (∈-dec i B) [ yes b ↦ (B, b, p .built) | no nb ↦ absurd (n (rest i .1 (is-item i .1 h, nb))) ]
+      elim (∈-dec i B) [ yes b ↦ (B, b, p .is-state) | no nb ↦ absurd (n (rest i .1 (is-item i .1 h, nb))) ]
 
   pub all-reached : D ≡ 0 → (i : ℕ) → i < l .items → Reachable (l .items) (l .len) (at (l .clauses)) i
   all-reached e i h = not-left i h (λ m. ∉-empty i (subst (λ (X : ℕ). i ∈ X) e m))

@@ -9,12 +9,6 @@ use Rattle.clauses.specs.Clauses.{at, State}
 abbrev pub Builds : ClauseList → ℕ → Type 0
 Builds l = State (l .items) (l .len) (at (l .clauses))
 
--- B can be built, lies inside X, and holds every other such set
-pub record Largest (l : ClauseList) (X B : ℕ) : Type 0 where
-  pub built : Builds l B
-  pub inside : B ⊆ X
-  pub holds : (K : ℕ) → Builds l K → K ⊆ X → K ⊆ B
-
 -- C is B with some items of X more, among them each that one of the first m clauses allows B to have
 pub record Pass (l : ClauseList) (X B C m : ℕ) : Type 0 where
   pub built : Builds l C

@@ -1,6 +1,7 @@
 // Building sets by clauses: what can be added is added until nothing can.
 ghost use Rattle.item_sets.specs.Sets.{_⊆_};
-ghost use Rattle.clauses.specs.Tables.{Builds, Largest, Pass};
+ghost use Rattle.spaces.specs.Largest.{Largest};
+ghost use Rattle.clauses.specs.Tables.{Builds, Pass};
 use crate::list::ClauseList;
 use item_sets::ItemSet;
 use item_sets::ItemSetPartialEq;
@@ -8,7 +9,7 @@ use item_sets::ItemSetPartialEq;
 impl ClauseList {
     // The largest set inside `within` that the clauses build.
     pub(crate) fn largest_inside(&self, within: ItemSet) -> ItemSet
-        ensures { λ r. ⌜ Largest (now (self .entry)) (within .number) (r .number) ⌝ }
+        ensures { λ r. ⌜ Largest (Builds (now (self .entry))) (within .number) (r .number) ⌝ }
     {
         let mut built = ItemSet::EMPTY;
         loop {

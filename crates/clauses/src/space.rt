@@ -19,4 +19,8 @@ pub impl Space for ClauseTable as ClauseTableSpace {
     fn is_state(&self, set: ItemSet) -> bool {
         self.list.largest_inside(set) == set
     }
+
+    fn largest_inside(&self, set: ItemSet) -> ItemSet {
+        self.list.largest_inside(set)
+    }
 }

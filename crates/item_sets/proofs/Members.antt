@@ -11,7 +11,7 @@ use lib.Arith.{lt-of-le-ne}
 use lib.Pow.{pow-pos}
 use lib.Count.{ones, ones-step, trailingZeros}
 use Rattle.item_sets.specs.Sets.{bit, _∈_, _∉_, _⊆_, Members, _∪_, _∖_, _⊕_, _⊖_, first, below, size, Least}
-use Rattle.item_sets.proofs.Bits.{bit-lt, bit-or, bit-less, bit-half, bit-zero, same-bits, bits-of-none, bit-pow-same, bit-pow-other, bit-high, below-from-bits, bit-ones, zero-or-one, trailing-set, trailing-clear}
+use Rattle.item_sets.proofs.Bits.{bit-lt, bit-and, bit-or, bit-less, bit-half, bit-zero, same-bits, bits-of-none, bit-pow-same, bit-pow-other, bit-high, below-from-bits, bit-ones, zero-or-one, trailing-set, trailing-clear}
 
 -- ---- whether an item is in a set is decided
 
@@ -81,6 +81,15 @@ unfolding _∪_ _∈_
         ⊎-elim (λ x. ⊎-elim (λ y. absurd (omega arith)) inr (zero-or-one (bit Y i) (bit-lt Y i))) inl (zero-or-one (bit X i) (bit-lt X i))
     back : (bit X i ≡ 1) ⊎ (bit Y i ≡ 1) → bit (bitOr X Y) i ≡ 1
     back s = omega (arith, bit-or X Y i, bit-lt X i, bit-lt Y i)
+
+pub ∈-and : (X Y : ℕ) → Members (bitAnd X Y) (λ i. (i ∈ X) × (i ∈ Y))
+unfolding _∈_
+∈-and X Y i = (there, back)
+  where
+    there : bit (bitAnd X Y) i ≡ 1 → (bit X i ≡ 1) × (bit Y i ≡ 1)
+    there h = omega (arith, bit-and X Y i, bit-lt X i, bit-lt Y i)
+    back : (bit X i ≡ 1) × (bit Y i ≡ 1) → bit (bitAnd X Y) i ≡ 1
+    back s = omega (arith, bit-and X Y i)
 
 pub ∈-∖ : (X Y : ℕ) → Members (X ∖ Y) (λ i. (i ∈ X) × (i ∉ Y))
 unfolding _∖_ _∈_
@@ -168,20 +177,6 @@ with-without X i h =
     go : (j : ℕ) → j ∈ X → Dec (j ≡ i) → j ∈ (X ⊖ i) ⊕ i
     go j k (yes e) = ∈-with (X ⊖ i) i j .1 (inr e)
     go j k (no ne) = ∈-with (X ⊖ i) i j .1 (inl (∈-without X i j .1 (k, ne)))
-
--- a union with one item more on the right
-pub ∪-with : (K J i : ℕ) → K ∪ (J ⊕ i) ≡ (K ∪ J) ⊕ i
-∪-with K J i =
-    ⊆-antisym _ _
-    (∪-⊆ K (J ⊕ i) ((K ∪ J) ⊕ i)
-      (⊆-trans K (K ∪ J) ((K ∪ J) ⊕ i) (⊆-∪-left K J) (⊆-with (K ∪ J) i))
-      (with-⊆ J i ((K ∪ J) ⊕ i) (⊆-trans J (K ∪ J) ((K ∪ J) ⊕ i) (⊆-∪-right K J) (⊆-with (K ∪ J) i)) (with-has (K ∪ J) i)))
-    (with-⊆ (K ∪ J) i (K ∪ (J ⊕ i))
-      (∪-⊆ K J (K ∪ (J ⊕ i)) (⊆-∪-left K (J ⊕ i)) (⊆-trans J (J ⊕ i) (K ∪ (J ⊕ i)) (⊆-with J i) (⊆-∪-right K (J ⊕ i))))
-      (⊆-∪-right K (J ⊕ i) i (with-has J i)))
-
-pub ∪-none : (K : ℕ) → K ∪ 0 ≡ K
-∪-none K = ⊆-antisym _ _ (∪-⊆ K 0 K (⊆-refl K) (empty-⊆ K)) (⊆-∪-left K 0)
 
 -- the lowest bit that is set is the least item
 pub trailing-least : (k X : ℕ) → (X ≡ 0 → ⊥) → X < 2 ^ k → Least X (trailingZeros k X)

@@ -68,6 +68,14 @@ impl ItemSet {
         }
     }
 
+    pub fn intersection(self, other: ItemSet) -> ItemSet
+        ensures { λ r. ⌜ Members (r .number) (λ i. (i ∈ self .number) × (i ∈ other .number)) ⌝ }
+    {
+        ItemSet {
+            number: self.number & other.number,
+        }
+    }
+
     pub fn difference(self, other: ItemSet) -> ItemSet
         ensures members { λ r. ⌜ Members (r .number) (λ i. (i ∈ self .number) × (i ∉ other .number)) ⌝ }
         ensures number { λ r. ⌜ r .number ≡ self .number ∖ other .number ⌝ }

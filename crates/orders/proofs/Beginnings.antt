@@ -12,7 +12,7 @@ use Rattle.std.proofs.shelf.Lists.{take-all}
 use Rattle.item_sets.specs.Sets.{_∈_, _∉_, _⊆_, _⊕_, first, below}
 use Rattle.item_sets.proofs.Members.{⊆-antisym, ⊆-refl, empty-⊆, ∉-empty, ∈-with, with-has, below-with, below-full, below-first, ∈-first}
 use Rattle.orders.specs.Orders.{Order, set-of, LongestBeginning}
-use Rattle.orders.proofs.Sets.{with-mono, with-swap, below-empty}
+use Rattle.item_sets.proofs.Unions.{with-mono, with-swap, below-empty}
 
 -- ---- one item more, and more of them
 

@@ -2,5 +2,4 @@ pub mod Beginnings
 pub mod Checks
 pub mod Loops
 pub mod Reading
-pub mod Sets
 pub mod Unions

@@ -1,4 +1,4 @@
--- The rows of a record as they are read one by one, and the rows of a table.
+-- The rows of a record, and the loop that reads them one by one.
 -- Assumes nothing.
 use mathlib.Core.Path.{_≡_, refl, sym, ap, subst, subst₂, _∙_}
 use mathlib.Core.Bool.{true}
@@ -7,24 +7,20 @@ use Prim.Native.Nat.{ℕ, suc, _+_, _-_, _*_, _≤_, _<_, min}
 use native.Mathlib.Nat.{suc-mul, mul-le-mul-right}
 use native.Mathlib.Omega.{arith}
 use borrow.Author.Count.{below-more}
-use lib.ListN.{length, getD, take, drop, set}
+use lib.ListN.{length, take, drop, set}
 use Rattle.std.specs.Iters.{counting}
 use Rattle.std.specs.shelf.Lists.{All}
 use Rattle.std.proofs.shelf.Lists.{length-take, length-drop, length-set, take-more-set, map-push}
-use Rattle.std.proofs.shelf.Elements.{all-weaker, all-from-getD}
+use Rattle.std.proofs.shelf.Elements.{all-from-getD}
 use Rattle.std.proofs.shelf.Counted.{map-counting-more, length-map-counting, getD-map-counting}
-use Rattle.item_sets.specs.Sets.{first}
 use Rattle.refusals.specs.Report.{says}
 use Rattle.refusals.specs.declared.Layer.the-variants.{Record}
 use Rattle.records.specs.Format.{items, rows, Right, of-items, of-rows, of-distance}
 use Rattle.records.specs.declared.Kind.the-variants.{Orders}
-use Rattle.orders.specs.Orders.{Order, set-of}
+use Rattle.orders.specs.Orders.{Order}
 use Rattle.orders.specs.Rows.{cut, rows-of, are-orders}
-use Rattle.orders.specs.Tables.{orders}
 use Rattle.orders.specs.Loading.{row, RightRow, WrongRow}
 use Rattle.orders.specs.declared.row.OrderRow.{OrderRow}
-use Rattle.orders.specs.declared.table.OrderTable.{OrderTable}
-use Rattle.orders.proofs.Beginnings.{order-has-all}
 use Rattle.orders.proofs.Checks.{tells-orders}
 
 -- ---- the rows of a record whose trailer is right
@@ -38,7 +34,7 @@ ends-before n m d l r e f h =
 row-ends : (b : List ℕ) → Right Orders b → (r : ℕ) → r < rows b → r * items b + items b ≤ length b
 row-ends b t r h = let d = t of-distance in ends-before (items b) (rows b) _ (length b) r (d .0) (d .1) h
 
-pub row-long : (b : List ℕ) → Right Orders b → (r : ℕ) → r < rows b → length (row b r) ≡ items b
+row-long : (b : List ℕ) → Right Orders b → (r : ℕ) → r < rows b → length (row b r) ≡ items b
 row-long b t r h =
     let n = items b in
     let within : r * n + n ≤ length b = row-ends b t r h in
@@ -110,50 +106,44 @@ reading b n m t en em =
       few-rows = room;
       fits = λ r h. part-ends b t n r en (here r h);
       short = λ r h. let long : length (part b n r) ≡ n = part-long b t n r en (here r h) in omega (arith, few);
-      more = λ r xs x so-far h o c.
-        (length-set xs r x ∙ so-far .0,
-         rows-more b t n r en (here r h) xs x (omega (arith, room)) (so-far .1) c,
-         below-more _ r (so-far .2) (row-right b t n r en (here r h) o));
+      more = λ r xs x so-far h o c. (
+        length-set xs r x ∙ so-far .0,
+        rows-more b t n r en (here r h) xs x (omega (arith, room)) (so-far .1) c,
+        below-more _ r (so-far .2) (row-right b t n r en (here r h) o),
+      );
       wrong = λ r xs so-far h w.
-        record {
-          at = r;
-          within = here r h;
-          wrong = row-wrong b t n r en (here r h) w;
-          first = so-far .2;
-          says-so = ap (λ (k : ℕ). says 6 Record (r * k)) en
-        };
+          record {
+            at = r;
+            within = here r h;
+            wrong = row-wrong b t n r en (here r h) w;
+            first = so-far .2;
+            says-so = ap (λ (k : ℕ). says 6 Record (r * k)) en;
+          };
       tested = λ r xs so-far ge le.
-        tells-orders n m (rows-of n m xs) .1
-          (ap length (read-all r xs so-far ge le) ∙ length-map-counting (row b) 0 (rows b) ∙ sym em,
-           subst (All (Order n)) (sym (read-all r xs so-far ge le))
-             (all-from-getD (Order n) _ [] (λ s h.
-               let k : s < rows b = subst (λ (z : ℕ). s < z) (length-map-counting (row b) 0 (rows b)) h in
-               subst₂ Order (sym en) (sym (getD-map-counting (row b) 0 (rows b) s s [] k (omega arith))) (right-all r xs so-far ge s k))));
+          tells-orders n m (rows-of n m xs) .1 (
+            ap length (read-all r xs so-far ge le) ∙ length-map-counting (row b) 0 (rows b) ∙ sym em,
+            subst (All (Order n)) (sym (read-all r xs so-far ge le))
+                (all-from-getD (Order n) _ [] (λ s h.
+                let k : s < rows b = subst (λ (z : ℕ). s < z) (length-map-counting (row b) 0 (rows b)) h in
+                subst₂ Order (sym en) (sym (getD-map-counting (row b) 0 (rows b) s s [] k (omega arith))) (right-all r xs so-far ge s k))),
+          );
       all-right = right-all;
-      all-read = read-all
+      all-read = read-all;
     }
   where
     few : n ≤ 30
     few = subst (λ (k : ℕ). k ≤ 30) (sym en) (t of-items .1)
+
     room : m ≤ 16
     room = subst (λ (k : ℕ). k ≤ 16) (sym em) (t of-rows .1)
+
     here : (r : ℕ) → r < m → r < rows b
     here r h = subst (λ (k : ℕ). r < k) em h
-    right-all : (r : ℕ) (xs : List OrderRow) → (length xs ≡ 16) × (map (cut n) (take r xs) ≡ map (row b) (counting 0 r)) × ((s : ℕ) → s < r → RightRow b s) → m ≤ r → (s : ℕ) → s < rows b → RightRow b s
+
+    right-all : (r : ℕ) (xs : List OrderRow) → Read b n r xs → m ≤ r → (s : ℕ) → s < rows b → RightRow b s
     right-all r xs so-far ge s h = let k : s < m = subst (λ (z : ℕ). s < z) (sym em) h in so-far .2 s (omega arith)
-    read-all : (r : ℕ) (xs : List OrderRow) → (length xs ≡ 16) × (map (cut n) (take r xs) ≡ map (row b) (counting 0 r)) × ((s : ℕ) → s < r → RightRow b s) → m ≤ r → r ≤ m → rows-of n m xs ≡ map (row b) (counting 0 (rows b))
+
+    read-all : (r : ℕ) (xs : List OrderRow) → Read b n r xs → m ≤ r → r ≤ m → rows-of n m xs ≡ map (row b) (counting 0 (rows b))
     read-all r xs so-far ge le =
         let e : r ≡ m = omega arith in
         ap (λ (k : ℕ). map (cut n) (take k xs)) (sym e) ∙ so-far .1 ∙ ap (λ (k : ℕ). map (row b) (counting 0 k)) (e ∙ em)
-
--- ---- the rows of a table
-
-right-rows : (t : OrderTable) → (length (orders t) ≡ t .len) × All (Order (t .items)) (orders t)
-right-rows t = tells-orders (t .items) (t .len) (orders t) .0 (t .right)
-
--- there is one, and each has all the items
-pub some-row : (t : OrderTable) → 0 < length (orders t)
-some-row t = omega (arith, right-rows t .0, t .«row_range»)
-
-pub rows-have-all : (t : OrderTable) → All (λ xs. set-of xs ≡ first (t .items)) (orders t)
-rows-have-all t = all-weaker (Order (t .items)) (λ xs. set-of xs ≡ first (t .items)) (order-has-all (t .items)) (orders t) (right-rows t .1)

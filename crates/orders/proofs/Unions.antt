@@ -2,19 +2,20 @@
 -- Assumes nothing.
 use mathlib.Core.Path.{_≡_, refl, sym, ap, ap₂, subst, _∙_}
 use mathlib.Core.List.{List, [], _∷_, _++_}
-use mathlib.Core.Logic.{⊎-elim}
 use Prim.Native.Nat.{ℕ, zero, suc, max, _≤_, _<_, zero-le}
-use native.Mathlib.Nat.{le-refl, le-of-eq, not-suc-le-zero}
+use native.Mathlib.Nat.{le-refl, not-suc-le-zero}
 use native.Mathlib.Omega.{arith}
-use native.Mathlib.Decide.{decLe, ℕ-discrete}
+use native.Mathlib.Decide.{decLe}
 use lib.ListN.{length, getD, take}
 use Rattle.std.specs.shelf.Lists.{All}
 use Rattle.std.proofs.shelf.Lists.{take-all}
-use Rattle.item_sets.specs.Sets.{_∈_, _∉_, _⊆_, _∪_, _⊕_, _⊖_, first}
-use Rattle.item_sets.proofs.Members.{∈-dec, ⊆-antisym, ⊆-refl, ⊆-trans, empty-⊆, ∪-⊆, ∪-mono, ⊆-∪-left, ⊆-∪-right, ∈-first, ∉-empty, with-has, with-present, without-with}
+use Rattle.item_sets.specs.Sets.{_∈_, _⊆_, _∪_, _⊕_, _⊖_, first}
+use Rattle.item_sets.proofs.Members.{∈-dec, ⊆-refl, ⊆-trans, empty-⊆, ∪-⊆, ∪-mono, ⊆-∪-left, ⊆-∪-right, ∈-first, ∉-empty, with-has, with-present, without-with}
+use Rattle.spaces.specs.Largest.{Largest}
 use Rattle.spaces.specs.Laws.{LearningSpace}
-use Rattle.orders.specs.Orders.{set-of, UnionOfBeginnings, LongestBeginning, LargestInside}
-use Rattle.orders.proofs.Sets.{∪-empty-left, ∪-empty-right, ∪-part, ∪-comm, ∪-assoc, ∪-cross, with-∪}
+use Rattle.spaces.proofs.Theory.{largest-of}
+use Rattle.orders.specs.Orders.{set-of, UnionOfBeginnings, LongestBeginning}
+use Rattle.item_sets.proofs.Unions.{∪-empty-left, ∪-empty-right, ∪-part, ∪-comm, ∪-assoc, ∪-cross, with-∪}
 use Rattle.orders.proofs.Beginnings.{set-of-more, set-of-mono}
 
 -- ---- the laws of a learning space
@@ -138,22 +139,21 @@ union-pop (x ∷ rows) row K u =
       u .4 ∙ ap (λ (X : ℕ). B ∪ X) (r .4) ∙ sym (∪-assoc B (r .0) (set-of (take (r .1) row))),
     )
 
-pub largest-none : (S : ℕ) → LargestInside [] S 0
-largest-none S = record { union = refl; inside = empty-⊆ S; largest = λ K e f. subst (λ (X : ℕ). X ⊆ 0) (sym e) (⊆-refl 0) }
+pub largest-none : (S : ℕ) → Largest (UnionOfBeginnings []) S 0
+largest-none S = largest-of (UnionOfBeginnings []) S 0 refl (empty-⊆ S) (λ K e f. subst (λ (X : ℕ). X ⊆ 0) (sym e) (⊆-refl 0))
 
-pub largest-more : (rows : List (List ℕ)) (row : List ℕ) (S U B : ℕ) → LargestInside rows S U → LongestBeginning row S B → LargestInside (rows ++ row ∷ []) S (U ∪ B)
+pub largest-more : (rows : List (List ℕ)) (row : List ℕ) (S U B : ℕ) → Largest (UnionOfBeginnings rows) S U → LongestBeginning row S B → Largest (UnionOfBeginnings (rows ++ row ∷ [])) S (U ∪ B)
 unfolding LongestBeginning
 largest-more rows row S U B g l =
-    record {
-      union = subst (λ (X : ℕ). UnionOfBeginnings (rows ++ row ∷ []) (U ∪ X)) (sym (l .2)) (union-push rows row U (l .0) (g .union) (l .1));
-      inside = ∪-⊆ U B S (g .inside) (l .3);
-      largest = λ K u f.
+    largest-of (UnionOfBeginnings (rows ++ row ∷ [])) S (U ∪ B)
+      (subst (λ (X : ℕ). UnionOfBeginnings (rows ++ row ∷ []) (U ∪ X)) (sym (l .2)) (union-push rows row U (l .0) (g .is-state) (l .1)))
+      (∪-⊆ U B S (g .inside) (l .3))
+      (λ K u f.
           let r = union-pop rows row K u in
           let J = r .0 in
           let C = set-of (take (r .1) row) in
           let sub : J ∪ C ⊆ S = subst (λ (X : ℕ). X ⊆ S) (r .4) f in
-          let inJ : J ⊆ U = g .largest J (r .2) (⊆-trans J (J ∪ C) S (⊆-∪-left J C) sub) in
+          let inJ : J ⊆ U = g .holds J (r .2) (⊆-trans J (J ∪ C) S (⊆-∪-left J C) sub) in
           let le = l .4 (r .1) (r .3) (⊆-trans C (J ∪ C) S (⊆-∪-right J C) sub) in
           let inC : C ⊆ B = subst (λ (X : ℕ). C ⊆ X) (sym (l .2)) (set-of-mono row (r .1) (l .0) le) in
-          subst (λ (X : ℕ). X ⊆ U ∪ B) (sym (r .4)) (∪-mono J C U B inJ inC);
-    }
+          subst (λ (X : ℕ). X ⊆ U ∪ B) (sym (r .4)) (∪-mono J C U B inJ inC))

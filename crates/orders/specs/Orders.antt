@@ -34,9 +34,3 @@ unfoldable pub LongestBeginning : List ℕ → ℕ → ℕ → Type 0
 LongestBeginning row S B =
     (k : ℕ) × (k ≤ length row) × (B ≡ set-of (take k row)) × (B ⊆ S)
     × ((j : ℕ) → j ≤ length row → set-of (take j row) ⊆ S → j ≤ k)
-
--- U is the largest union of beginnings inside the set S
-pub record LargestInside (rows : List (List ℕ)) (S U : ℕ) : Type 0 where
-  pub union : UnionOfBeginnings rows U
-  pub inside : U ⊆ S
-  pub largest : (K : ℕ) → UnionOfBeginnings rows K → K ⊆ S → K ⊆ U

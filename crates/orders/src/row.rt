@@ -1,11 +1,9 @@
 // One row of an order table: the items in the sequence in which they are taught.
-ghost use mathlib.Core.Path.{_≡_};
-ghost use Prim.Native.Nat.{ℕ, _≤_};
+ghost use Prim.Native.Nat.{_≤_};
 ghost use lib.ListN.{length};
 ghost use Rattle.std.specs.Orderings.{Decides};
-ghost use Rattle.std.specs.Options.{Cases as BySome};
 ghost use Rattle.orders.specs.Orders.{Order, LongestBeginning};
-ghost use Rattle.orders.specs.Rows.{cut};
+ghost use Rattle.orders.specs.Rows.{cut, RowOf};
 use item_sets::Item;
 use item_sets::ItemSet;
 
@@ -21,7 +19,7 @@ impl OrderRow {
     // The row of these items, unless one is not below their number or stands twice.
     pub(crate) fn from_items(items: &[Item]) -> Option<OrderRow>
         requires { ⌜ length (now items) ≤ 30 ⌝ }
-        ensures { λ r. ⌜ BySome r (Order (length (now (items .entry))) (now (items .entry)) → ⊥) (λ row. Order (length (now (items .entry))) (now (items .entry)) × (cut (length (now (items .entry))) row ≡ now (items .entry))) ⌝ }
+        ensures { λ r. ⌜ RowOf (now (items .entry)) r ⌝ }
     {
         if !is_order(items) {
             return None;

@@ -21,6 +21,7 @@ fn check_states_of_two_orders(table: &OrderTable) -> Result<(), Fail> {
     Ok(())
 }
 
+// The record is refused for this reason, and the table is left as it was.
 fn check_refused(bytes: &[u8], number: u8, place: u64) -> Result<(), Fail> {
     let mut table = OrderTable::fresh();
     table.load(&TWO_ORDERS)?;
@@ -31,6 +32,21 @@ fn check_refused(bytes: &[u8], number: u8, place: u64) -> Result<(), Fail> {
     check_eq(refusal.layer(), Layer::Record)?;
     check_eq(refusal.place(), place)?;
     check_states_of_two_orders(&table)
+}
+
+// The record of one row, the `n` items in rising order: the first n + 8 bytes.
+fn rising(n: usize) -> [u8; 39]
+    requires { ⌜ n ≤ 31 ⌝ }
+{
+    let mut bytes = [0; 39];
+    for i in 0..n {
+        bytes[i] = i as u8;
+    }
+    bytes[n] = b'O';
+    bytes[n + 1] = n as u8;
+    bytes[n + 2] = 1;
+    bytes[n + 4] = n as u8;
+    bytes
 }
 
 #[test]
@@ -51,11 +67,7 @@ fn the_trailer_is_checked_first() -> Result<(), Fail> {
 
 #[test]
 fn the_first_wrong_row_is_told() -> Result<(), Fail> {
-    check_refused(
-        &[1, 2, 0, 1, 3, 0, 0, 0, 0, b'O', 3, 3, 0, 9, 0, 0, 0],
-        6,
-        3,
-    )?;
+    check_refused(&[0, 1, 2, 0, 0, 0, b'O', 2, 3, 0, 6, 0, 0, 0], 6, 2)?;
     check_refused(&[1, 2, 0, 2, 1, 2, b'O', 3, 2, 0, 6, 0, 0, 0], 6, 3)
 }
 
@@ -68,19 +80,4 @@ fn thirty_items_are_the_most() -> Result<(), Fail> {
     check_eq(table.items(), ItemSet::all_below(30))?;
     check(table.is_state(ItemSet::all_below(29)))?;
     check(!table.is_state(ItemSet::EMPTY.with(29)))
-}
-
-// The record of one row, the `n` items in rising order: the first n + 8 bytes.
-fn rising(n: usize) -> [u8; 39]
-    requires { ⌜ n ≤ 31 ⌝ }
-{
-    let mut bytes = [0; 39];
-    for i in 0..n {
-        bytes[i] = i as u8;
-    }
-    bytes[n] = b'O';
-    bytes[n + 1] = n as u8;
-    bytes[n + 2] = 1;
-    bytes[n + 4] = n as u8;
-    bytes
 }

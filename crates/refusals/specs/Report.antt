@@ -6,9 +6,9 @@ use Prim.Native.Nat.{ℕ}
 use lib.Chars.{codes}
 use Rattle.std.specs.Written.{decimal}
 use Rattle.refusals.specs.declared.Layer.{Layer}
-use Rattle.refusals.specs.declared.Layer.the-variants.{Record, Table}
+use Rattle.refusals.specs.declared.Layer.the-variants.{Record, Table, Listing}
 use Rattle.refusals.specs.declared.Refusal.{Refusal}
-use Rattle.refusals.specs.declared.Refusal.the-variants.{ShortRecord, WrongKind, WrongItemCount, WrongRowCount, WrongDistance, WrongRow, UnbuildableItem}
+use Rattle.refusals.specs.declared.Refusal.the-variants.{ShortRecord, WrongKind, WrongItemCount, WrongRowCount, WrongDistance, WrongRow, UnbuildableItem, NoState}
 
 pub record Report : Type 0 where
   pub number : ℕ
@@ -26,11 +26,13 @@ report (WrongRowCount p) = says 4 Record p
 report (WrongDistance p) = says 5 Record p
 report (WrongRow p) = says 6 Record p
 report (UnbuildableItem p) = says 8 Table p
+report (NoState p) = says 16 Listing p
 
 -- the layer's word
 abbrev pub word : Layer → List ℕ
 word Record = codes "record"
 word Table = codes "table"
+word Listing = codes "listing"
 
 -- the line that is printed
 abbrev pub line : Report → List ℕ

@@ -4,11 +4,12 @@ ghost use Rattle.std.specs.declared.option.Option.the-variants.{Some};
 ghost use Rattle.refusals.specs.Report.{report, word, line};
 use std::fmt;
 
-// Whose mistake it is: a record's, or a table's that a record spells.
+// Whose mistake it is: a record's, a table's that a record spells, or a question's about states.
 #[derive(Clone, Copy, PartialEq, Eq, Debug)]
 pub enum Layer {
     Record,
     Table,
+    Listing,
 }
 
 impl Layer {
@@ -18,6 +19,7 @@ impl Layer {
         match self {
             Layer::Record => "record",
             Layer::Table => "table",
+            Layer::Listing => "listing",
         }
     }
 }
@@ -39,6 +41,8 @@ pub enum Refusal {
     WrongRow(u64),
     // An item lies in no set that can be built; the place is the least such item.
     UnbuildableItem(u64),
+    // A set that should be a state is none; the place is its set number.
+    NoState(u64),
 }
 
 impl Refusal {
@@ -53,6 +57,7 @@ impl Refusal {
             Refusal::WrongDistance(_) => 5,
             Refusal::WrongRow(_) => 6,
             Refusal::UnbuildableItem(_) => 8,
+            Refusal::NoState(_) => 16,
         }
     }
 
@@ -67,6 +72,7 @@ impl Refusal {
             | Refusal::WrongDistance(_)
             | Refusal::WrongRow(_) => Layer::Record,
             Refusal::UnbuildableItem(_) => Layer::Table,
+            Refusal::NoState(_) => Layer::Listing,
         }
     }
 
@@ -80,7 +86,8 @@ impl Refusal {
             | Refusal::WrongRowCount(place)
             | Refusal::WrongDistance(place)
             | Refusal::WrongRow(place)
-            | Refusal::UnbuildableItem(place) => place,
+            | Refusal::UnbuildableItem(place)
+            | Refusal::NoState(place) => place,
         }
     }
 }

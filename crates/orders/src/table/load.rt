@@ -3,7 +3,7 @@ ghost use mathlib.Core.Path.{_≡_};
 ghost use mathlib.Core.List.{[], _∷_};
 ghost use Rattle.std.specs.Results.{Cases};
 ghost use Rattle.refusals.specs.Report.{report};
-ghost use Rattle.records.specs.Format.{Right, items, rows};
+ghost use Rattle.records.specs.Format.{Says};
 ghost use Rattle.records.specs.declared.Kind.the-variants.{Orders};
 ghost use Rattle.orders.specs.Tables.{orders};
 ghost use Rattle.orders.specs.Loading.{Loaded, Holds, WrongRow};
@@ -44,9 +44,7 @@ impl OrderTable {
 
     // The table of the rows before a trailer that is right; the first wrong row is refused.
     fn read(bytes: &[u8], trailer: Trailer) -> Result<OrderTable, Refusal>
-        requires right { ⌜ Right Orders (now bytes) ⌝ }
-        requires items { ⌜ trailer .items ≡ items (now bytes) ⌝ }
-        requires rows { ⌜ trailer .rows ≡ rows (now bytes) ⌝ }
+        requires { ⌜ Says Orders (now bytes) trailer ⌝ }
         ensures { λ r. ⌜ Cases r (λ t. Holds (now (bytes .entry)) t) (λ e. WrongRow (now (bytes .entry)) (report e)) ⌝ }
     {
         let n = trailer.items as usize;

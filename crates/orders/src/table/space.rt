@@ -1,7 +1,9 @@
 // An order table as a learning space: its states are the unions of beginnings, one of each row.
+ghost use mathlib.Core.Logic.{_↔_};
 ghost use mathlib.Core.Path.{_≡_};
 ghost use Rattle.item_sets.specs.Sets.{first};
-ghost use Rattle.orders.specs.Orders.{UnionOfBeginnings, LargestInside};
+ghost use Rattle.spaces.specs.Largest.{Largest};
+ghost use Rattle.orders.specs.Orders.{UnionOfBeginnings};
 ghost use Rattle.orders.specs.Tables.{orders};
 use super::OrderTable;
 use item_sets::ItemSet;
@@ -9,10 +11,11 @@ use item_sets::ItemSetPartialEq;
 use spaces::Space;
 
 impl OrderTable {
-    // The largest state inside a set: the union of the longest beginnings that lie inside it.
-    pub fn largest_inside(&self, set: ItemSet) -> ItemSet
-        ensures largest { λ r. ⌜ LargestInside (orders (now (self .entry))) (set .number) (r .number) ⌝ }
-        ensures exact { λ r. ⌜ (r .number ≡ set .number → UnionOfBeginnings (orders (now (self .entry))) (set .number)) × (UnionOfBeginnings (orders (now (self .entry))) (set .number) → r .number ≡ set .number) ⌝ }
+    // The union of the longest beginnings inside a set, which is the largest state inside it. It is the set itself exactly
+    // where the set is a state.
+    fn longest_beginnings(&self, set: ItemSet) -> ItemSet
+        ensures largest { λ r. ⌜ Largest (UnionOfBeginnings (orders (now (self .entry)))) (set .number) (r .number) ⌝ }
+        ensures exact { λ r. ⌜ (r .number ≡ set .number) ↔ UnionOfBeginnings (orders (now (self .entry))) (set .number) ⌝ }
     {
         let mut largest = ItemSet::EMPTY;
         for row in &self.rows[0..self.len] {
@@ -31,8 +34,11 @@ pub impl Space for OrderTable as OrderTableSpace {
         ItemSet::all_below(self.items)
     }
 
-    // A set is a state where nothing of it lies outside the largest state inside it.
     fn is_state(&self, set: ItemSet) -> bool {
-        self.largest_inside(set) == set
+        self.longest_beginnings(set) == set
+    }
+
+    fn largest_inside(&self, set: ItemSet) -> ItemSet {
+        self.longest_beginnings(set)
     }
 }

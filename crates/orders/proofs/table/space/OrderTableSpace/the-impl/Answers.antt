@@ -1,5 +1,5 @@
 use Rattle.orders.specs.Tables.{orders}
-use Rattle.orders.proofs.Reading.{some-row, rows-have-all}
+use Rattle.orders.proofs.Checks.{some-row, rows-have-all}
 use Rattle.orders.proofs.Unions.{orders-laws}
 use Rattle.orders.proofs.table.space.OrderTableSpace.the-impl.Needs as need
 

@@ -1,11 +1,11 @@
--- More of what membership says of set numbers.
+-- Laws of unions, of single items beside them, and of the empty set.
 -- Assumes nothing.
-use mathlib.Core.Path.{_≡_, refl}
-use Prim.Native.Nat.{ℕ, zero, suc, _+_}
+use mathlib.Core.Path.{_≡_, refl, ap, _∙_}
+use Prim.Native.Nat.{ℕ, zero, suc}
 use native.Mathlib.Omega.{arith}
-use Rattle.item_sets.specs.Sets.{_∈_, _⊆_, _∪_, _⊕_, below}
+use Rattle.item_sets.specs.Sets.{_⊆_, _∪_, _⊕_, below}
 use Rattle.item_sets.proofs.Bits.{bits-of-none}
 use Rattle.item_sets.proofs.Members.{⊆-antisym, ⊆-refl, ⊆-trans, empty-⊆, ∪-⊆, ⊆-∪-left, ⊆-∪-right, ∪-mono, with-⊆, ⊆-with, with-has}
 
 -- ---- unions
 
@@ -58,6 +58,9 @@ with-∪ X i Y =
     ⊆-antisym _ _
     (∪-⊆ (X ⊕ i) Y _ (with-mono X (X ∪ Y) i (⊆-∪-left X Y)) (⊆-trans Y (X ∪ Y) _ (⊆-∪-right X Y) (⊆-with (X ∪ Y) i)))
     (with-⊆ (X ∪ Y) i _ (∪-mono X Y (X ⊕ i) Y (⊆-with X i) (⊆-refl Y)) (⊆-∪-left (X ⊕ i) Y i (with-has X i)))
+
+pub ∪-with : (X Y i : ℕ) → X ∪ (Y ⊕ i) ≡ (X ∪ Y) ⊕ i
+∪-with X Y i = ∪-comm X (Y ⊕ i) ∙ with-∪ Y i X ∙ ap (λ (Z : ℕ). Z ⊕ i) (∪-comm Y X)
 
 -- ---- how many items there are
 

@@ -1,0 +1,3 @@
+pub mod Collecting
+pub mod Growing
+pub mod Theory
