@@ -1,4 +1,5 @@
 // Building sets by clauses: what can be added is added until nothing can.
+ghost use mathlib.Core.Path.{_≡_};
 ghost use Rattle.item_sets.specs.Sets.{_⊆_};
 ghost use Rattle.spaces.specs.Largest.{Largest};
 ghost use Rattle.clauses.specs.Tables.{Builds, Pass};
@@ -9,7 +10,8 @@ use item_sets::ItemSetPartialEq;
 impl ClauseList {
     // The largest set inside `within` that the clauses build.
     pub(crate) fn largest_inside(&self, within: ItemSet) -> ItemSet
-        ensures { λ r. ⌜ Largest (Builds (now (self .entry))) (within .number) (r .number) ⌝ }
+        ensures largest { λ r. ⌜ Largest (Builds (now (self .entry))) (within .number) (r .number) ⌝ }
+        ensures exact { λ r. ⌜ (r .number ≡ within .number → Builds (now (self .entry)) (within .number)) × (Builds (now (self .entry)) (within .number) → r .number ≡ within .number) ⌝ }
     {
         let mut built = ItemSet::EMPTY;
         loop {

@@ -4,6 +4,8 @@ ghost use Rattle.std.specs.declared.option.Option.the-variants.{Some};
 ghost use Rattle.jandifety.specs.Answers.{Answers, line};
 use crate::command::Command;
 use item_sets::ItemSet;
+use refusals::Refusal;
+use refusals::RefusalDisplay;
 use spaces::Space;
 use std::fmt;
 
@@ -12,6 +14,13 @@ pub enum Answer {
     Items(ItemSet),
     State(ItemSet),
     NoState(ItemSet),
+    // a set, and the largest state inside it
+    Largest(ItemSet, ItemSet),
+    // a state, its inner fringe and its outer fringe
+    Fringes(ItemSet, ItemSet, ItemSet),
+    SameState(ItemSet, ItemSet),
+    DifferentStates(ItemSet, ItemSet),
+    Refused(Refusal),
 }
 
 impl Command {
@@ -27,6 +36,17 @@ impl Command {
                     Answer::NoState(set)
                 }
             }
+            Command::Largest(set) => Answer::Largest(set, space.largest_inside(set)),
+            Command::Fringes(set) => match (space.inner_fringe(set), space.outer_fringe(set)) {
+                (Ok(inner), Ok(outer)) => Answer::Fringes(set, inner, outer),
+                (Err(refusal), _) => Answer::Refused(refusal),
+                (_, Err(refusal)) => Answer::Refused(refusal),
+            },
+            Command::Compare(a, b) => match space.same_by_fringes(a, b) {
+                Ok(true) => Answer::SameState(a, b),
+                Ok(false) => Answer::DifferentStates(a, b),
+                Err(refusal) => Answer::Refused(refusal),
+            },
         }
     }
 }
@@ -36,18 +56,20 @@ pub impl fmt::Display for Answer as AnswerDisplay {
 
     fn fmt<W: fmt::Write>(&self, f: &mut fmt::Formatter<W>) -> fmt::Result {
         match self {
-            Answer::Items(set) => {
-                let number = set.number;
-                write!(f, "items: {number}")
+            Answer::Items(set) => write!(f, "items: {}", set.number),
+            Answer::State(set) => write!(f, "{}: state", set.number),
+            Answer::NoState(set) => write!(f, "{}: no state", set.number),
+            Answer::Largest(set, largest) => {
+                write!(f, "largest inside {}: {}", set.number, largest.number)
             }
-            Answer::State(set) => {
-                let number = set.number;
-                write!(f, "{number}: state")
+            Answer::Fringes(set, inner, outer) => {
+                write!(f, "fringes of {}: inner {}, outer {}", set.number, inner.number, outer.number)
             }
-            Answer::NoState(set) => {
-                let number = set.number;
-                write!(f, "{number}: no state")
+            Answer::SameState(a, b) => write!(f, "{} and {}: same state", a.number, b.number),
+            Answer::DifferentStates(a, b) => {
+                write!(f, "{} and {}: different states", a.number, b.number)
             }
+            Answer::Refused(refusal) => write!(f, "{refusal}"),
         }
     }
 }

@@ -9,6 +9,12 @@ pub enum Command {
     Items,
     // whether a set is a state
     Tell(ItemSet),
+    // the largest state inside a set
+    Largest(ItemSet),
+    // both fringes of a state
+    Fringes(ItemSet),
+    // whether two states are the same, by their fringes
+    Compare(ItemSet, ItemSet),
 }
 
 // What was expected in the place of what stands there.
@@ -21,7 +27,7 @@ pub enum Expected {
 pub impl fmt::Display for Expected as ExpectedDisplay {
     fn fmt<W: fmt::Write>(&self, f: &mut fmt::Formatter<W>) -> fmt::Result {
         match self {
-            Expected::Command => write!(f, "error: expected 'items' or 'tell SET'"),
+            Expected::Command => write!(f, "error: expected 'items', 'tell SET', 'largest SET', 'fringes SET' or 'compare SET SET'"),
             Expected::SetNumber => write!(f, "error: expected a set number from 0 to 4294967295"),
         }
     }
@@ -32,9 +38,12 @@ pub impl FromStr for Command as CommandFromStr {
 
     fn from_str(line: &str) -> Result<Command, Expected> {
         let mut words = line.split_whitespace();
-        match (words.next(), words.next(), words.next()) {
-            (Some("items"), None, _) => Ok(Command::Items),
-            (Some("tell"), Some(set), None) => Ok(Command::Tell(set_number(set)?)),
+        match (words.next(), words.next(), words.next(), words.next()) {
+            (Some("items"), None, _, _) => Ok(Command::Items),
+            (Some("tell"), Some(set), None, _) => Ok(Command::Tell(set_number(set)?)),
+            (Some("largest"), Some(set), None, _) => Ok(Command::Largest(set_number(set)?)),
+            (Some("fringes"), Some(set), None, _) => Ok(Command::Fringes(set_number(set)?)),
+            (Some("compare"), Some(a), Some(b), None) => Ok(Command::Compare(set_number(a)?, set_number(b)?)),
             _ => Err(Expected::Command),
         }
     }

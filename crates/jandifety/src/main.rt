@@ -3,6 +3,7 @@ mod answer;
 mod command;
 mod table;
 
+use answer::Answer;
 use answer::AnswerDisplay;
 use clauses::ClauseTable;
 use command::Command;
@@ -67,7 +68,7 @@ fn run<T: Table + Drop>(rt: &LibcRuntime, bytes: &[u8], command: &str) -> Result
     }
     match respond(rt, &table, command.as_bytes())? {
         true => Ok(()),
-        false => Err("the command is not understood".into()),
+        false => Err("the command is refused".into()),
     }
 }
 
@@ -75,12 +76,12 @@ fn run<T: Table + Drop>(rt: &LibcRuntime, bytes: &[u8], command: &str) -> Result
 fn serve<S: Space>(rt: &LibcRuntime, space: &S) -> io::Result<()> {
     for line in BufReader::new(rt.stdin()).split(rt.alloc(), b'\n') {
         let line = line?;
-        let _understood = respond(rt, space, line.as_slice())?;
+        let _answered = respond(rt, space, line.as_slice())?;
     }
     Ok(())
 }
 
-// Answers one line, and tells whether it was understood. A blank line asks nothing.
+// Answers one line, and tells whether it was a command that was not refused. A blank line asks nothing.
 fn respond<S: Space>(rt: &LibcRuntime, space: &S, line: &[u8]) -> io::Result<bool> {
     let command = match std::str::from_utf8(line) {
         Ok(text) if text.trim().is_empty() => return Ok(true),
@@ -88,8 +89,14 @@ fn respond<S: Space>(rt: &LibcRuntime, space: &S, line: &[u8]) -> io::Result<boo
         Err(_) => Err(Expected::Command),
     };
     match command {
-        Ok(command) => rt.println(command.ask(space))?,
-        Err(expected) => rt.println(expected)?,
+        Ok(command) => {
+            let answer = command.ask(space);
+            rt.println(answer)?;
+            Ok(!matches!(answer, Answer::Refused(_)))
+        }
+        Err(expected) => {
+            rt.println(expected)?;
+            Ok(false)
+        }
     }
-    Ok(command.is_ok())
 }

@@ -1,12 +1,17 @@
 -- Growing a state item by item.
 -- Assumes nothing.
-use mathlib.Core.Path.{_≡_, refl, sym, subst}
+use mathlib.Core.Bool.{Bool, true, false}
+use mathlib.Core.Path.{_≡_, refl, sym, subst, _∙_}
 use mathlib.Core.Logic.{_⊎_, inl, inr, ⊎-elim}
 use Prim.Native.Nat.{ℕ, _+_, _-_, _*_, _^_, _≤_, _<_}
 use native.Mathlib.Decide.{ℕ-discrete}
 use native.Mathlib.Omega.{arith}
+use Rattle.std.specs.Orderings.{Decides}
+use Rattle.std.specs.declared.option.Option.the-variants.{None, Some}
+use Rattle.std.proofs.shelf.Ways.{not-from-decides}
+use Rattle.item_sets.specs.Iteration.{Steps}
 use Rattle.item_sets.specs.Sets.{_∈_, _∉_, _⊆_, _⊕_, _⊖_, Members}
-use Rattle.item_sets.proofs.Members.{∈-dec, ∉-empty, ∈-without, ⊆-refl, ⊆-trans, ⊆-with, with-has, with-⊆, with-present, without-lt, part-lt, ⊆-le, empty-⊆}
+use Rattle.item_sets.proofs.Members.{∈-dec, ∉-empty, ∈-without, ⊆-refl, ⊆-trans, ⊆-with, with-has, with-⊆, with-present, without-lt, part-lt, ⊆-le, empty-⊆, members-below}
 use Rattle.spaces.specs.Laws.{LearningSpace}
 use Rattle.spaces.specs.Largest.{Largest}
 use Rattle.spaces.proofs.Theory.{largest-closed}
@@ -57,3 +62,42 @@ module _ (state : ℕ → Type 0) (W : ℕ) where
   done G X L U laws both none p =
       largest-closed G state laws X L (p .is-state) (λ i h. both i .0 (p .inside i h) .1)
         (λ i g x n s. p .tried i (both i .1 (g, x)) n (λ u. ∉-empty i (subst (λ (V : ℕ). i ∈ V) none u)) s)
+
+-- What the loop keeps, as a search sees it, and the steps that keep it.
+pub GrowingSoFar : (ℕ → Type 0) → ℕ → ℕ → ℕ → Type 0
+GrowingSoFar state W L U = Growing state W L U
+
+pub record GrowingSteps (state : ℕ → Type 0) (W : ℕ) : Type 0 where
+  pub adds : (L U R i S M V : ℕ) (b : Bool) → GrowingSoFar state W L U → Steps R (Some i) S → R ≡ U → (i < 32 → M ≡ L ⊕ i)
+      → Decides b (state M) → b ≡ true → Members V (λ j. (j ∈ W) × (j ∉ M)) → GrowingSoFar state W M V
+  pub passes : (L U R i S M V : ℕ) (b : Bool) → GrowingSoFar state W L U → Steps R (Some i) S → R ≡ U → (i < 32 → M ≡ L ⊕ i)
+      → Decides b (state M) → b ≡ false → V ≡ U ⊖ i → GrowingSoFar state W L V
+  pub falls : (L U R i S M V : ℕ) (b : Bool) → GrowingSoFar state W L U → Steps R (Some i) S → R ≡ U → (i < 32 → M ≡ L ⊕ i)
+      → Decides b (state M) → b ≡ true → Members V (λ j. (j ∈ W) × (j ∉ M)) → V < 2 ^ 32 → (W - M) * 2 ^ 32 + V < (W - L) * 2 ^ 32 + U
+  pub ends : (G X L U R S : ℕ) → LearningSpace G state → GrowingSoFar state W L U → Steps R None S → R ≡ U
+      → Members W (λ i. (i ∈ G) × (i ∈ X)) → Largest state X L
+
+pub growing-begins : (state : ℕ → Type 0) (W : ℕ) → state 0 → GrowingSoFar state W 0 W
+unfolding GrowingSoFar
+growing-begins = begun
+
+pub growing-steps : (state : ℕ → Type 0) (W : ℕ) → W < 2 ^ 32 → GrowingSteps state W
+unfolding GrowingSoFar
+growing-steps state W small = record {
+    adds = λ L U R i S M V b p step same grown told yes-state left.
+      let here = at-hand U R i same (step .0 .0) in
+      added state W L U i p here M V (grown (low L U i p here)) (told .0 yes-state) left;
+    passes = λ L U R i S M V b p step same grown told no-state left.
+      let here = at-hand U R i same (step .0 .0) in
+      passed state W L U i p here V left (λ s. not-from-decides b told no-state (subst state (sym (grown (low L U i p here))) s));
+    falls = λ L U R i S M V b p step same grown told yes-state left fits.
+      let here = at-hand U R i same (step .0 .0) in
+      let e = grown (low L U i p here) in
+      fewer state W L U i p here M V e (added state W L U i p here M V e (told .0 yes-state) left) fits;
+    ends = λ G X L U R S laws p step same both. done state W G X L U laws both (sym same ∙ step .0) p;
+  }
+  where
+    at-hand : (U R i : ℕ) → R ≡ U → i ∈ R → i ∈ U
+    at-hand U R i same h = subst (λ (X : ℕ). i ∈ X) same h
+    low : (L U i : ℕ) → Growing state W L U → i ∈ U → i < 32
+    low L U i p here = members-below W 32 small i (p .of-within i here)

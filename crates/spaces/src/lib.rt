@@ -2,6 +2,8 @@
 ghost use mathlib.Core.Path.{_≡_};
 ghost use Prim.Native.Nat.{ℕ};
 ghost use Rattle.std.specs.Orderings.{Decides};
+ghost use Rattle.refusals.specs.declared.Layer.the-variants.{Listing};
+ghost use Rattle.refusals.specs.Report.{report, says};
 ghost use Rattle.spaces.specs.Laws.{LearningSpace};
 ghost use Rattle.spaces.specs.Largest.{Largest, Inner, Outer, Fringe, Compared};
 use item_sets::ItemSet;
@@ -50,7 +52,7 @@ pub trait Space {
         ensures { λ r. ⌜ Fringe (state (now (self .entry))) (Inner (state (now (self .entry))) (set .number)) (set .number) r ⌝ }
     {
         if !self.is_state(set) {
-            return Err(Refusal::NoState(u64::from(set.number)));
+            return Err(no_state(set));
         }
         let mut fringe = ItemSet::EMPTY;
         for item in set.items() {
@@ -66,7 +68,7 @@ pub trait Space {
         ensures { λ r. ⌜ Fringe (state (now (self .entry))) (Outer (ground (now (self .entry))) (state (now (self .entry))) (set .number)) (set .number) r ⌝ }
     {
         if !self.is_state(set) {
-            return Err(Refusal::NoState(u64::from(set.number)));
+            return Err(no_state(set));
         }
         let mut fringe = ItemSet::EMPTY;
         for item in self.items().difference(set).items() {
@@ -87,4 +89,10 @@ pub trait Space {
         let outer_b = self.outer_fringe(b)?;
         Ok(inner_a == inner_b && outer_a == outer_b)
     }
+}
+
+fn no_state(set: ItemSet) -> Refusal
+    ensures { λ r. ⌜ report r ≡ says 16 Listing (set .number) ⌝ }
+{
+    Refusal::NoState(u64::from(set.number))
 }

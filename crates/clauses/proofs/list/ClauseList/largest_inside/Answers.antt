@@ -6,7 +6,8 @@ use lib.Arith.{lt-of-le-ne}
 use Rattle.std.proofs.shelf.Ways.{not-from-decides}
 use Rattle.item_sets.proofs.Members.{empty-⊆, ⊆-le}
 use Rattle.clauses.specs.Building.{none}
-use Rattle.clauses.specs.Tables.{Pass}
+use Rattle.spaces.proofs.Theory.{state-from-largest}
+use Rattle.clauses.specs.Tables.{Builds, Pass}
 use Rattle.clauses.proofs.Passes.{pass-ends}
 use Rattle.clauses.proofs.list.ClauseList.largest_inside.Needs as need
 
@@ -19,7 +20,8 @@ returns-then-eq c =
     let X = c .args .within .number in
     let B = c .loop-within .built .number in
     let same : c .pass-next .result .number ≡ B = c .eq .ensures .0 (c .if-eq .taken) in
-    pass-ends l X B (subst (λ (C : ℕ). Pass l X B C (l .len)) same (c .pass-next .ensures))
+    let largest = pass-ends l X B (subst (λ (C : ℕ). Pass l X B C (l .len)) same (c .pass-next .ensures)) in
+    record { largest = largest; exact = state-from-largest (Builds l) X B largest }
 
 pub loop-within-less : need.loop-within-less
 loop-within-less c =

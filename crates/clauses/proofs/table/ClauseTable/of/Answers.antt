@@ -12,7 +12,7 @@ ghost-result c =
     let l = c .args .list in
     let few : l .items < 32 = omega (arith, l .bounds) in
     let none = sym (c .items .ensures) ∙ c .in-None .ensures tt .steps .0 in
-    (λ i h. ∣ all-reached l _ _ _ (c .all-below-all .ensures .number few) (c .largest-inside-reached .ensures) (c .difference .ensures .members) none i h ∣₁, tt)
+    (λ i h. ∣ all-reached l _ _ _ (c .all-below-all .ensures .number few) (c .largest-inside-reached .ensures .largest) (c .difference .ensures .members) none i h ∣₁, tt)
 
 pub returns-in-Some : need.returns-in-Some
 returns-in-Some c =
@@ -22,7 +22,7 @@ returns-in-Some c =
     let least : Least (c .difference .result .number) i =
           subst (λ (D : ℕ). Least D i) (c .items .ensures) (c .in-Some .ensures tt .steps .0) in
     (i,
-     least-left l _ _ _ (c .all-below-all .ensures .number few) (c .largest-inside-reached .ensures) (c .difference .ensures .members) i least,
+     least-left l _ _ _ (c .all-below-all .ensures .number few) (c .largest-inside-reached .ensures .largest) (c .difference .ensures .members) i least,
      ap (says 8 Table) (c .from .ensures))
 
 pub returns-in-None : need.returns-in-None
@@ -30,4 +30,4 @@ returns-in-None c =
     let l = c .args .list in
     let few : l .items < 32 = omega (arith, l .bounds) in
     let none = sym (c .items .ensures) ∙ c .in-None .ensures tt .steps .0 in
-    (refl, all-reached l _ _ _ (c .all-below-all .ensures .number few) (c .largest-inside-reached .ensures) (c .difference .ensures .members) none)
+    (refl, all-reached l _ _ _ (c .all-below-all .ensures .number few) (c .largest-inside-reached .ensures .largest) (c .difference .ensures .members) none)
