@@ -68,17 +68,29 @@ module _ (f : ℕ → Clause) (k : ℕ) (rises : (j : ℕ) → j < k → f j .it
     four-from-same : f m .item ≡ f k .item → 4 ≤ earlier f k (f k .item)
     four-from-same e =
         let same : (j : ℕ) → m ≤ j → j ≤ k → has f (f k .item) j ≡ 1 =
-              λ j low high. has-one f (f k .item) j (omega (arith, rises-to m j low (omega arith), rises-to j k high (le-refl k))) in
-        omega (arith, last-four, same m (omega arith) (omega arith), same (suc m) (omega arith) (omega arith),
-          same (suc (suc m)) (omega arith) (omega arith), same (suc (suc (suc m))) (omega arith) (omega arith))
+        λ j low high. has-one f (f k .item) j (omega (arith, rises-to m j low (omega arith), rises-to j k high (le-refl k))) in
+        omega (
+          arith,
+          last-four,
+          same m (omega arith) (omega arith),
+          same (suc m) (omega arith) (omega arith),
+          same (suc (suc m)) (omega arith) (omega arith),
+          same (suc (suc (suc m))) (omega arith) (omega arith),
+        )
 
     three-from-other : (f m .item ≡ f k .item → ⊥) → earlier f k (f k .item) < 4
     three-from-other ne =
         let i = f k .item in
         let less : f m .item < i = omega (arith, rises-to m k (omega arith) (le-refl k), ne) in
-        omega (arith, last-four,
+        omega (
+          arith,
+          last-four,
           earlier-none f i m (λ j l e. let le : f j .item ≤ f m .item = rises-to j m (omega arith) (omega arith) in omega arith),
-          has-none f i m ne, has-le f i (suc m), has-le f i (suc (suc m)), has-le f i (suc (suc (suc m))))
+          has-none f i m ne,
+          has-le f i (suc m),
+          has-le f i (suc (suc m)),
+          has-le f i (suc (suc (suc m))),
+        )
 
   pub few-early : k < 4 → earlier f k (f k .item) < 4
   few-early h = omega (arith, earlier-le f (f k .item) k)
@@ -86,5 +98,5 @@ module _ (f : ℕ → Clause) (k : ℕ) (rises : (j : ℕ) → j < k → f j .it
   pub few-decides : 4 ≤ k → Decides (not (eqb (f (k - 4) .item) (f k .item))) (earlier f k (f k .item) < 4)
   few-decides h =
       decides-like _ (three-from-other (k - 4) (omega arith))
-        (λ few same. let four : 4 ≤ earlier f k (f k .item) = four-from-same (k - 4) (omega arith) same in omega arith)
-        (decides-not _ (decides-eqb (f (k - 4) .item) (f k .item)))
+      (λ few same. let four : 4 ≤ earlier f k (f k .item) = four-from-same (k - 4) (omega arith) same in omega arith)
+      (decides-not _ (decides-eqb (f (k - 4) .item) (f k .item)))

@@ -14,21 +14,23 @@ use Rattle.clauses.specs.Loading.{free-clause}
 module _ (f : ℕ → Clause) (free : f 0 ≡ free-clause) where
   right-first : Right 1 f 0
   right-first = record {
-      item-below = subst (λ (q : Clause). q .item < 1) (sym free) (lit< tt);
-      in-order = λ j e. absurd (omega arith);
-      at-most-four = lit< tt;
-      inside = subst (λ (q : Clause). q .alternative .number < 2 ^ 1) (sym free) (lit< tt);
-      of-others = subst (λ (q : Clause). q .item ∉ q .alternative .number) (sym free) (∉-empty 0);
-    }
+    item-below = subst (λ (q : Clause). q .item < 1) (sym free) (lit< tt);
+    in-order = λ j e. absurd (omega arith);
+    at-most-four = lit< tt;
+    inside = subst (λ (q : Clause). q .alternative .number < 2 ^ 1) (sym free) (lit< tt);
+    of-others = subst (λ (q : Clause). q .item ∉ q .alternative .number) (sym free) (∉-empty 0);
+  }
 
   pub fresh-right : (k : ℕ) → k < 1 → Right 1 f k
   fresh-right k h = let e : 0 ≡ k = omega arith in subst (Right 1 f) e right-first
 
   reach-first : Reachable 1 1 f 0
-  reach-first =
-      (0 ⊕ 0, with-has 0 0,
-       add none 0 (∈-first 1 0 .1 (lit< tt)) (∉-empty 0)
-         (0, lit< tt, ap (λ (q : Clause). q .item) free, subst (λ (q : Clause). q .alternative .number ⊆ 0) (sym free) (empty-⊆ 0)))
+  reach-first = (
+    0 ⊕ 0,
+    with-has 0 0,
+    add none 0 (∈-first 1 0 .1 (lit< tt)) (∉-empty 0)
+        (0, lit< tt, ap (λ (q : Clause). q .item) free, subst (λ (q : Clause). q .alternative .number ⊆ 0) (sym free) (empty-⊆ 0)),
+  )
 
   pub fresh-reachable : (i : ℕ) → i < 1 → Reachable 1 1 f i
   fresh-reachable i h = let e : 0 ≡ i = omega arith in subst (Reachable 1 1 f) e reach-first

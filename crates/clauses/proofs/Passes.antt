@@ -28,9 +28,10 @@ item-known l m lt = ∥∥₁-elim (l .alternatives m lt) le-prop (λ r. r .item
 pub built-more : (l : ClauseList) (C m : ℕ) → m < l .len → Builds l C → at (l .clauses) m .alternative .number ⊆ C → Builds l (C ⊕ at (l .clauses) m .item)
 built-more l C m lt b met =
     let i = at (l .clauses) m .item in
-    elim (∈-dec i C)
-      [ yes there ↦ subst (Builds l) (sym (with-present C i there)) b
-      | no fresh ↦ add b i (∈-first (l .items) i .1 (item-known l m lt)) fresh (m, lt, refl, met) ]
+    elim (∈-dec i C) [
+      | yes there ↦ subst (Builds l) (sym (with-present C i there)) b
+      | no fresh ↦ add b i (∈-first (l .items) i .1 (item-known l m lt)) fresh (m, lt, refl, met)
+    ]
 
 module _ (l : ClauseList) (X B C m : ℕ) (p : Pass l X B C m) where
   -- the next clause adds nothing that is not there
@@ -57,5 +58,5 @@ module _ (l : ClauseList) (X B C m : ℕ) (p : Pass l X B C m) where
 pub pass-ends : (l : ClauseList) (X B : ℕ) → Pass l X B B (l .len) → Largest (Builds l) X B
 pass-ends l X B p =
     largest-of (Builds l) X B (p .built) (p .inside)
-      (closed-holds (first (l .items)) (Met (l .len) (at (l .clauses))) (met-stays (l .len) (at (l .clauses))) X B
-        (λ i g x m. subst (λ (j : ℕ). j ∈ B) (m .2) (p .swept (m .0) (m .1) (subst (λ (j : ℕ). j ∈ X) (sym (m .2)) x) (m .3))))
+    (closed-holds (first (l .items)) (Met (l .len) (at (l .clauses))) (met-stays (l .len) (at (l .clauses))) X B
+    (λ i g x m. subst (λ (j : ℕ). j ∈ B) (m .2) (p .swept (m .0) (m .1) (subst (λ (j : ℕ). j ∈ X) (sym (m .2)) x) (m .3))))

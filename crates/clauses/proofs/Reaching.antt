@@ -24,15 +24,17 @@ use Rattle.clauses.proofs.Passes.{met-stays}
 -- whether an item can be added is decided: there are finitely many clauses
 met-dec : (len : ℕ) (f : ℕ → Clause) (i X : ℕ) → Dec (Met len f i X)
 met-dec len f i X =
-    elim (some-below (λ k. (f k .item ≡ i) × (f k .alternative .number ⊆ X)) one len)
-      [ inl found ↦ yes (found .0, found .1, found .2 .0, found .2 .1)
-      | inr rest ↦ no (λ m. rest (m .0) (m .1) (m .2, m .3)) ]
+    elim (some-below (λ k. (f k .item ≡ i) × (f k .alternative .number ⊆ X)) one len) [
+      | inl found ↦ yes (found .0, found .1, found .2 .0, found .2 .1)
+      | inr rest ↦ no (λ m. rest (m .0) (m .1) (m .2, m .3))
+    ]
   where
     one : (k : ℕ) → Dec ((f k .item ≡ i) × (f k .alternative .number ⊆ X))
     one k =
-        elim (ℕ-discrete (f k .item) i)
-          [ no n ↦ no (λ p. n (p .0))
-          | yes e ↦ elim (⊆-dec (f k .alternative .number) X) [ yes s ↦ yes (e, s) | no n ↦ no (λ p. n (p .1)) ] ]
+        elim (ℕ-discrete (f k .item) i) [
+          | no n ↦ no (λ p. n (p .0))
+          | yes e ↦ elim (⊆-dec (f k .alternative .number) X) [ yes s ↦ yes (e, s) | no n ↦ no (λ p. n (p .1)) ]
+        ]
 
 pub table-laws : (t : ClauseTable) → LearningSpace (first (t .list .items)) (Builds (t .list))
 table-laws t =
@@ -41,13 +43,13 @@ table-laws t =
     let stays = met-stays (l .len) (at (l .clauses)) in
     let below : (i : ℕ) → i ∈ first n → i < 30 = λ i h. omega (arith, ∈-first n i .0 h, l .bounds) in
     built-space (first n) (Met (l .len) (at (l .clauses)))
-      (λ e. ∉-empty 0 (subst (λ (X : ℕ). 0 ∈ X) e (∈-first n 0 .1 (omega (arith, l .bounds)))))
-      below
-      (record {
-        stays = stays;
-        whole = whole-from-items (first n) (Met (l .len) (at (l .clauses))) stays 30 below (met-dec (l .len) (at (l .clauses)))
+    (λ e. ∉-empty 0 (subst (λ (X : ℕ). 0 ∈ X) e (∈-first n 0 .1 (omega (arith, l .bounds)))))
+    below
+    (record {
+      stays = stays;
+      whole = whole-from-items (first n) (Met (l .len) (at (l .clauses))) stays 30 below (met-dec (l .len) (at (l .clauses)))
           (λ i h. t .reachable i (∈-first n i .0 h));
-      })
+    })
 
 -- the items that can be reached are those of the largest buildable set B, and D holds the others
 module _ (l : ClauseList) (A B D : ℕ) (whole : A ≡ first (l .items)) (p : Largest (Builds l) A B) (rest : Members D (λ i. (i ∈ A) × (i ∉ B))) where
@@ -68,7 +70,7 @@ module _ (l : ClauseList) (A B D : ℕ) (whole : A ≡ first (l .items)) (p : La
       record {
         is-item = item;
         unreachable = λ r.
-          let inside = built-inside (first (l .items)) (Met (l .len) (at (l .clauses))) (r .0) (r .2) in
-          left .1 (p .holds (r .0) (r .2) (subst (λ (X : ℕ). r .0 ⊆ X) (sym whole) inside) i (r .1));
+            let inside = built-inside (first (l .items)) (Met (l .len) (at (l .clauses))) (r .0) (r .2) in
+            left .1 (p .holds (r .0) (r .2) (subst (λ (X : ℕ). r .0 ⊆ X) (sym whole) inside) i (r .1));
         least = λ j h. not-left j (omega arith) (λ m. let le : i ≤ j = least .1 j m in omega arith);
       }

@@ -19,11 +19,12 @@ use Rattle.item_sets.proofs.Members.{members-below, number-below}
 -- an alternative that lies inside the other items below n
 pub inside-others : (n i A B O : ℕ) → n ≤ 30 → Members B (λ j. (j < n) × (j < 32)) → Members O (λ j. (j ∈ B) × (j ≡ i → ⊥))
     → (A ⊆ O) ↔ ((A < 2 ^ n) × (i ∉ A))
-inside-others n i A B O few all others =
-    (λ f. (number-below A n (λ j h. all j .0 (others j .0 (f j h) .0) .0), λ h. others i .0 (f i h) .1 refl),
-     λ p j h.
-       let lt : j < n = members-below A n (p .0) j h in
-       others j .1 (all j .1 (lt, omega arith), λ e. p .1 (subst (λ (m : ℕ). m ∈ A) e h)))
+inside-others n i A B O few all others = (
+  λ f. (number-below A n (λ j h. all j .0 (others j .0 (f j h) .0) .0), λ h. others i .0 (f i h) .1 refl),
+  λ p j h.
+      let lt : j < n = members-below A n (p .0) j h in
+      others j .1 (all j .1 (lt, omega arith), λ e. p .1 (subst (λ (m : ℕ). m ∈ A) e h)),
+)
 
 -- whether a clause is right depends on it and on those before it
 module _ (f g : ℕ → Clause) where
@@ -39,7 +40,7 @@ module _ (f g : ℕ → Clause) where
         item-below = subst (λ (q : Clause). q .item < n) e (r .item-below);
         in-order = λ j s. subst₂ (λ (p q : Clause). p .item ≤ q .item) (h j (omega arith)) e (r .in-order j s);
         at-most-four =
-          subst (λ (m : ℕ). m < 4) (earlier-agree k (g k .item) (λ j l. h j (omega arith)))
+            subst (λ (m : ℕ). m < 4) (earlier-agree k (g k .item) (λ j l. h j (omega arith)))
             (subst (λ (q : Clause). earlier f k (q .item) < 4) e (r .at-most-four));
         inside = subst (λ (q : Clause). q .alternative .number < 2 ^ n) e (r .inside);
         of-others = subst (λ (q : Clause). q .item ∉ q .alternative .number) e (r .of-others);

@@ -24,16 +24,16 @@ module _ (b : List ℕ) (l : ClauseList) (s : Spelled b l) where
   pub reach-spelled : (i : ℕ) → Reachable (l .items) (l .len) (at (l .clauses)) i → Reachable (items b) (rows b) (row b) i
   reach-spelled i r =
       reach-agree (items b) (rows b) (at (l .clauses)) (row b) (s .same-clauses) i
-        (subst₂ (λ (n len : ℕ). Reachable n len (at (l .clauses)) i) (s .same-items) (s .same-length) r)
+      (subst₂ (λ (n len : ℕ). Reachable n len (at (l .clauses)) i) (s .same-items) (s .same-length) r)
 
   reach-listed : (i : ℕ) → Reachable (items b) (rows b) (row b) i → Reachable (l .items) (l .len) (at (l .clauses)) i
   reach-listed i r =
       subst₂ (λ (n len : ℕ). Reachable n len (at (l .clauses)) i) (sym (s .same-items)) (sym (s .same-length))
-        (reach-agree (items b) (rows b) (row b) (at (l .clauses)) (λ k h. sym (s .same-clauses k h)) i r)
+      (reach-agree (items b) (rows b) (row b) (at (l .clauses)) (λ k h. sym (s .same-clauses k h)) i r)
 
   pub least-spelled : (i : ℕ) → LeastUnreachable (l .items) (l .len) (at (l .clauses)) i → LeastUnreachable (items b) (rows b) (row b) i
   least-spelled i u = record {
-      is-item = subst (λ (n : ℕ). i < n) (s .same-items) (u .is-item);
-      unreachable = λ r. u .unreachable (reach-listed i r);
-      least = λ j h. reach-spelled j (u .least j h);
-    }
+    is-item = subst (λ (n : ℕ). i < n) (s .same-items) (u .is-item);
+    unreachable = λ r. u .unreachable (reach-listed i r);
+    least = λ j h. reach-spelled j (u .least j h);
+  }

@@ -10,7 +10,31 @@ use std::alloc::Global;
 use std::test::*;
 
 // Item 0 needs item 2; items 1 and 2 need nothing.
-const THREE: [u8; 23] = [0, 4, 0, 0, 0, 1, 0, 0, 0, 0, 2, 0, 0, 0, 0, 67, 3, 3, 0, 15, 0, 0, 0];
+const THREE: [u8; 23] = [
+    0,
+    4,
+    0,
+    0,
+    0,
+    1,
+    0,
+    0,
+    0,
+    0,
+    2,
+    0,
+    0,
+    0,
+    0,
+    67,
+    3,
+    3,
+    0,
+    15,
+    0,
+    0,
+    0,
+];
 
 // Loads `THREE` into a table and then `bytes`, which must be refused as told and leave the table.
 fn refused(bytes: &[u8], number: u8, layer: Layer, place: u64) -> Result<(), Fail> {
@@ -48,27 +72,87 @@ fn three_items_load() -> Result<(), Fail> {
 #[test]
 fn trailers_are_refused() -> Result<(), Fail> {
     refused(&[67, 1, 1, 0, 5, 0, 0], 1, Layer::Record, 7)?;
-    refused(&[0, 0, 0, 0, 0, 79, 1, 1, 0, 5, 0, 0, 0], 2, Layer::Record, 5)?;
-    refused(&[0, 0, 0, 0, 0, 67, 0, 1, 0, 5, 0, 0, 0], 3, Layer::Record, 6)?;
-    refused(&[0, 0, 0, 0, 0, 67, 31, 1, 0, 5, 0, 0, 0], 3, Layer::Record, 6)?;
+    refused(
+        &[0, 0, 0, 0, 0, 79, 1, 1, 0, 5, 0, 0, 0],
+        2,
+        Layer::Record,
+        5,
+    )?;
+    refused(
+        &[0, 0, 0, 0, 0, 67, 0, 1, 0, 5, 0, 0, 0],
+        3,
+        Layer::Record,
+        6,
+    )?;
+    refused(
+        &[0, 0, 0, 0, 0, 67, 31, 1, 0, 5, 0, 0, 0],
+        3,
+        Layer::Record,
+        6,
+    )?;
     refused(&[67, 1, 0, 0, 0, 0, 0, 0], 4, Layer::Record, 2)?;
-    refused(&[0, 0, 0, 0, 0, 67, 1, 121, 0, 5, 0, 0, 0], 4, Layer::Record, 7)?;
-    refused(&[0, 0, 0, 0, 0, 67, 1, 1, 0, 6, 0, 0, 0], 5, Layer::Record, 9)?;
-    refused(&[0, 0, 0, 0, 0, 0, 67, 1, 1, 0, 5, 0, 0, 0], 5, Layer::Record, 10)
+    refused(
+        &[0, 0, 0, 0, 0, 67, 1, 121, 0, 5, 0, 0, 0],
+        4,
+        Layer::Record,
+        7,
+    )?;
+    refused(
+        &[0, 0, 0, 0, 0, 67, 1, 1, 0, 6, 0, 0, 0],
+        5,
+        Layer::Record,
+        9,
+    )?;
+    refused(
+        &[0, 0, 0, 0, 0, 0, 67, 1, 1, 0, 5, 0, 0, 0],
+        5,
+        Layer::Record,
+        10,
+    )
 }
 
 #[test]
 fn rows_are_refused() -> Result<(), Fail> {
-    refused(&[1, 0, 0, 0, 0, 67, 1, 1, 0, 5, 0, 0, 0], 6, Layer::Record, 0)?;
-    refused(&[0, 2, 0, 0, 0, 67, 1, 1, 0, 5, 0, 0, 0], 6, Layer::Record, 0)?;
-    refused(&[0, 1, 0, 0, 0, 67, 1, 1, 0, 5, 0, 0, 0], 6, Layer::Record, 0)?;
-    refused(&[1, 0, 0, 0, 0, 0, 0, 0, 0, 0, 67, 2, 2, 0, 10, 0, 0, 0], 6, Layer::Record, 5)
+    refused(
+        &[1, 0, 0, 0, 0, 67, 1, 1, 0, 5, 0, 0, 0],
+        6,
+        Layer::Record,
+        0,
+    )?;
+    refused(
+        &[0, 2, 0, 0, 0, 67, 1, 1, 0, 5, 0, 0, 0],
+        6,
+        Layer::Record,
+        0,
+    )?;
+    refused(
+        &[0, 1, 0, 0, 0, 67, 1, 1, 0, 5, 0, 0, 0],
+        6,
+        Layer::Record,
+        0,
+    )?;
+    refused(
+        &[1, 0, 0, 0, 0, 0, 0, 0, 0, 0, 67, 2, 2, 0, 10, 0, 0, 0],
+        6,
+        Layer::Record,
+        5,
+    )
 }
 
 #[test]
 fn items_out_of_reach_are_refused() -> Result<(), Fail> {
-    refused(&[0, 0, 0, 0, 0, 67, 2, 1, 0, 5, 0, 0, 0], 8, Layer::Table, 1)?;
-    refused(&[0, 2, 0, 0, 0, 1, 1, 0, 0, 0, 67, 2, 2, 0, 10, 0, 0, 0], 8, Layer::Table, 0)
+    refused(
+        &[0, 0, 0, 0, 0, 67, 2, 1, 0, 5, 0, 0, 0],
+        8,
+        Layer::Table,
+        1,
+    )?;
+    refused(
+        &[0, 2, 0, 0, 0, 1, 1, 0, 0, 0, 67, 2, 2, 0, 10, 0, 0, 0],
+        8,
+        Layer::Table,
+        0,
+    )
 }
 
 // A record of `items` items, each with `rows` rows that need nothing.

@@ -33,8 +33,8 @@ bit-half X i = ap (λ (n : ℕ). n % 2) (shr-shr X 1 i ∙ ap (λ (n : ℕ). X /
 pub bits-of-zero : (Y : ℕ) → ((i : ℕ) → bit Y i ≡ 0) → Y ≡ 0
 bits-of-zero =
     bin-ind (λ (n : ℕ). ((i : ℕ) → bit n i ≡ 0) → n ≡ 0) (λ h. refl)
-      (λ n ih h. sym (div-add-mod' n 2)
-        ∙ ap₂ (λ (p q : ℕ). p * 2 + q) (ih (λ i. bit-half n i ∙ h (suc i))) (sym (bit-zero n) ∙ h 0))
+    (λ n ih h. sym (div-add-mod' n 2)
+    ∙ ap₂ (λ (p q : ℕ). p * 2 + q) (ih (λ i. bit-half n i ∙ h (suc i))) (sym (bit-zero n) ∙ h 0))
 
 pub bits-of-none : (i : ℕ) → bit 0 i ≡ 0
 bits-of-none i = ap (λ (n : ℕ). n % 2) (zero-div (2 ^ i))
@@ -42,12 +42,12 @@ bits-of-none i = ap (λ (n : ℕ). n % 2) (zero-div (2 ^ i))
 pub same-bits : (X Y : ℕ) → ((i : ℕ) → bit X i ≡ bit Y i) → X ≡ Y
 same-bits =
     bin-ind (λ (n : ℕ). (Y : ℕ) → ((i : ℕ) → bit n i ≡ bit Y i) → n ≡ Y)
-      (λ Y h. sym (bits-of-zero Y (λ i. sym (h i) ∙ bits-of-none i)))
-      (λ n ih Y h. sym (div-add-mod' n 2)
-        ∙ ap₂ (λ (p q : ℕ). p * 2 + q)
-            (ih (Y / 2) (λ i. bit-half n i ∙ h (suc i) ∙ sym (bit-half Y i)))
-            (sym (bit-zero n) ∙ h 0 ∙ bit-zero Y)
-        ∙ div-add-mod' Y 2)
+    (λ Y h. sym (bits-of-zero Y (λ i. sym (h i) ∙ bits-of-none i)))
+    (λ n ih Y h. sym (div-add-mod' n 2)
+    ∙ ap₂ (λ (p q : ℕ). p * 2 + q)
+    (ih (Y / 2) (λ i. bit-half n i ∙ h (suc i) ∙ sym (bit-half Y i)))
+    (sym (bit-zero n) ∙ h 0 ∙ bit-zero Y)
+    ∙ div-add-mod' Y 2)
 
 -- bit by bit
 pub bit-and : (X Y i : ℕ) → bit (bitAnd X Y) i ≡ min (bit X i) (bit Y i)
@@ -113,8 +113,10 @@ bit-pow-other i j ne = ⊎-elim above beneath (split (decLt i j))
     split : Dec (i < j) → (i < j) ⊎ (j < i)
     split (yes h) = inl h
     split (no h) = inr (omega arith)
+
     above : i < j → bit (2 ^ i) j ≡ 0
     above h = bit-high (2 ^ i) (suc i) j (pow-lt (le-refl (suc i))) h
+
     beneath : j < i → bit (2 ^ i) j ≡ 0
     beneath h =
         let d : ℕ = i - suc j in
@@ -166,23 +168,23 @@ unfolding trailingZeros
 trailing-set zero X pos h = absurd (omega arith)
 trailing-set (suc k) X pos h =
     ⊎-elim
-      (λ even. let t : trailingZeros (suc k) X ≡ suc (trailingZeros k (X / 2)) = ap (λ (b : ℕ). under b (trailingZeros k (X / 2))) even in
-        ap (bit X) t ∙ sym (bit-half X (trailingZeros k (X / 2))) ∙ trailing-set k (X / 2) (omega arith) (omega (arith, pow-suc 2 k)))
-      (λ odd. let t : trailingZeros (suc k) X ≡ 0 = ap (λ (b : ℕ). under b (trailingZeros k (X / 2))) odd in
-        ap (bit X) t ∙ bit-zero X ∙ odd)
-      (zero-or-one (X % 2) (mod-lt X (zero-lt-suc 1)))
+    (λ even. let t : trailingZeros (suc k) X ≡ suc (trailingZeros k (X / 2)) = ap (λ (b : ℕ). under b (trailingZeros k (X / 2))) even in
+    ap (bit X) t ∙ sym (bit-half X (trailingZeros k (X / 2))) ∙ trailing-set k (X / 2) (omega arith) (omega (arith, pow-suc 2 k)))
+    (λ odd. let t : trailingZeros (suc k) X ≡ 0 = ap (λ (b : ℕ). under b (trailingZeros k (X / 2))) odd in
+    ap (bit X) t ∙ bit-zero X ∙ odd)
+    (zero-or-one (X % 2) (mod-lt X (zero-lt-suc 1)))
 
 pub trailing-clear : (k X j : ℕ) → j < trailingZeros k X → bit X j ≡ 0
 unfolding trailingZeros
 trailing-clear zero X j h = absurd (not-suc-le-zero h)
 trailing-clear (suc k) X j h =
     ⊎-elim
-      (λ even. let t : trailingZeros (suc k) X ≡ suc (trailingZeros k (X / 2)) = ap (λ (b : ℕ). under b (trailingZeros k (X / 2))) even in
-        lowest j even (λ i e. let below : i < trailingZeros k (X / 2) = omega arith in
-          sym (bit-half X i) ∙ trailing-clear k (X / 2) i below))
-      (λ odd. let t : trailingZeros (suc k) X ≡ 0 = ap (λ (b : ℕ). under b (trailingZeros k (X / 2))) odd in
-        absurd (omega arith))
-      (zero-or-one (X % 2) (mod-lt X (zero-lt-suc 1)))
+    (λ even. let t : trailingZeros (suc k) X ≡ suc (trailingZeros k (X / 2)) = ap (λ (b : ℕ). under b (trailingZeros k (X / 2))) even in
+    lowest j even (λ i e. let below : i < trailingZeros k (X / 2) = omega arith in
+    sym (bit-half X i) ∙ trailing-clear k (X / 2) i below))
+    (λ odd. let t : trailingZeros (suc k) X ≡ 0 = ap (λ (b : ℕ). under b (trailingZeros k (X / 2))) odd in
+    absurd (omega arith))
+    (zero-or-one (X % 2) (mod-lt X (zero-lt-suc 1)))
   where
     lowest : (n : ℕ) → X % 2 ≡ 0 → ((i : ℕ) → n ≡ suc i → bit X (suc i) ≡ 0) → bit X n ≡ 0
     lowest zero even f = bit-zero X ∙ even

@@ -79,6 +79,7 @@ unfolding _∪_ _∈_
     there h =
         let e : max (bit X i) (bit Y i) ≡ 1 = sym (bit-or X Y i) ∙ h in
         ⊎-elim (λ x. ⊎-elim (λ y. absurd (omega arith)) inr (zero-or-one (bit Y i) (bit-lt Y i))) inl (zero-or-one (bit X i) (bit-lt X i))
+
     back : (bit X i ≡ 1) ⊎ (bit Y i ≡ 1) → bit (bitOr X Y) i ≡ 1
     back s = omega (arith, bit-or X Y i, bit-lt X i, bit-lt Y i)
 
@@ -88,6 +89,7 @@ unfolding _∈_
   where
     there : bit (bitAnd X Y) i ≡ 1 → (bit X i ≡ 1) × (bit Y i ≡ 1)
     there h = omega (arith, bit-and X Y i, bit-lt X i, bit-lt Y i)
+
     back : (bit X i ≡ 1) × (bit Y i ≡ 1) → bit (bitAnd X Y) i ≡ 1
     back s = omega (arith, bit-and X Y i)
 
@@ -97,6 +99,7 @@ unfolding _∖_ _∈_
   where
     there : bit (X - bitAnd X Y) i ≡ 1 → (bit X i ≡ 1) × (bit Y i ≡ 1 → ⊥)
     there h = omega (arith, bit-less X Y i, bit-lt X i, bit-lt Y i)
+
     back : (bit X i ≡ 1) × (bit Y i ≡ 1 → ⊥) → bit (X - bitAnd X Y) i ≡ 1
     back s = omega (arith, bit-less X Y i, ∉-bit i Y (s .1))
 
@@ -134,20 +137,23 @@ pub ∈-only : (i : ℕ) → Members (2 ^ i) (λ j. j ≡ i)
         go : Dec (j ≡ i) → j ≡ i
         go (yes e) = e
         go (no ne) = absurd (bit-∉ j (2 ^ i) (bit-pow-other i j ne) h)
+
     back : j ≡ i → j ∈ 2 ^ i
     back e = subst (λ (k : ℕ). k ∈ 2 ^ i) (sym e) (bit-∈ i (2 ^ i) (bit-pow-same i))
 
 pub ∈-with : (X i : ℕ) → Members (X ⊕ i) (λ j. (j ∈ X) ⊎ (j ≡ i))
 unfolding _⊕_
-∈-with X i j =
-    (λ h. ⊎-elim inl (λ o. inr (∈-only i j .0 o)) (∈-∪ X (2 ^ i) j .0 h),
-     λ s. ∈-∪ X (2 ^ i) j .1 (⊎-elim inl (λ e. inr (∈-only i j .1 e)) s))
+∈-with X i j = (
+  λ h. ⊎-elim inl (λ o. inr (∈-only i j .0 o)) (∈-∪ X (2 ^ i) j .0 h),
+  λ s. ∈-∪ X (2 ^ i) j .1 (⊎-elim inl (λ e. inr (∈-only i j .1 e)) s),
+)
 
 pub ∈-without : (X i : ℕ) → Members (X ⊖ i) (λ j. (j ∈ X) × (j ≡ i → ⊥))
 unfolding _⊖_
-∈-without X i j =
-    (λ h. let d = ∈-∖ X (2 ^ i) j .0 h in (d .0, λ e. d .1 (∈-only i j .1 e)),
-     λ s. ∈-∖ X (2 ^ i) j .1 (s .0, λ o. s .1 (∈-only i j .0 o)))
+∈-without X i j = (
+  λ h. let d = ∈-∖ X (2 ^ i) j .0 h in (d .0, λ e. d .1 (∈-only i j .1 e)),
+  λ s. ∈-∖ X (2 ^ i) j .1 (s .0, λ o. s .1 (∈-only i j .0 o)),
+)
 
 pub with-has : (X i : ℕ) → i ∈ X ⊕ i
 with-has X i = ∈-with X i i .1 (inr refl)
@@ -246,11 +252,12 @@ below-full X Y f zero e i h m = absurd (not-suc-le-zero h)
 below-full X Y f (suc k) e i h m =
     let le : below X k ≤ below Y k = below-mono X Y f k in
     let bits : bit X k ≤ bit Y k = bit-le X Y f k in
-    elim (ℕ-discrete i k)
-      [ yes same ↦
+    elim (ℕ-discrete i k) [
+      | yes same ↦
           let there : bit Y k ≡ 1 = ∈-bit k Y (subst (λ (n : ℕ). n ∈ Y) same m) in
           subst (λ (n : ℕ). n ∈ X) (sym same) (bit-∈ k X (omega arith))
-      | no ne ↦ below-full X Y f k (omega arith) i (omega arith) m ]
+      | no ne ↦ below-full X Y f k (omega arith) i (omega arith) m
+    ]
 
 -- one item more
 below-with-past : (X i k : ℕ) → k ≤ i → below (X ⊕ i) k ≡ below X k
@@ -258,22 +265,23 @@ unfolding below
 below-with-past X i zero h = refl
 below-with-past X i (suc k) h =
     let same : bit (X ⊕ i) k ≡ bit X k =
-          same-bit (X ⊕ i) X k (λ m. ⊎-elim (λ p. p) (λ e. absurd (omega arith)) (∈-with X i k .0 m)) (⊆-with X i k) in
+    same-bit (X ⊕ i) X k (λ m. ⊎-elim (λ p. p) (λ e. absurd (omega arith)) (∈-with X i k .0 m)) (⊆-with X i k) in
     omega (arith, below-with-past X i k (omega arith))
 
 pub below-with : (X i k : ℕ) → i ∉ X → i < k → below (X ⊕ i) k ≡ suc (below X k)
 unfolding below
 below-with X i zero n h = absurd (not-suc-le-zero h)
 below-with X i (suc k) n h =
-    elim (ℕ-discrete i k)
-      [ yes e ↦
+    elim (ℕ-discrete i k) [
+      | yes e ↦
           let one : bit (X ⊕ i) k ≡ 1 = ∈-bit k (X ⊕ i) (subst (λ (j : ℕ). j ∈ X ⊕ i) e (with-has X i)) in
           let none : bit X k ≡ 0 = ∉-bit k X (λ m. n (subst (λ (j : ℕ). j ∈ X) (sym e) m)) in
           omega (arith, below-with-past X i k (omega arith))
       | no ne ↦
           let same : bit (X ⊕ i) k ≡ bit X k =
-                same-bit (X ⊕ i) X k (λ m. ⊎-elim (λ p. p) (λ e. absurd (ne (sym e))) (∈-with X i k .0 m)) (⊆-with X i k) in
-          omega (arith, below-with X i k n (omega arith)) ]
+          same-bit (X ⊕ i) X k (λ m. ⊎-elim (λ p. p) (λ e. absurd (ne (sym e))) (∈-with X i k .0 m)) (⊆-with X i k) in
+          omega (arith, below-with X i k n (omega arith))
+    ]
 
 pub below-first : (n k : ℕ) → k ≤ n → below (first n) k ≡ k
 unfolding below

@@ -7,7 +7,6 @@ use lib.Bits.{bitAnd, bitOr}
 
 infix 50 _∈_ _∉_ _⊆_
 infixl 65 _∪_ _∖_ _⊕_ _⊖_
-
 -- bit i of the number X: 1 where item i is in the set, 0 where it is not
 abbrev pub bit : ℕ → ℕ → ℕ
 bit X i = X / 2 ^ i % 2

@@ -63,7 +63,11 @@ pub impl fmt::Display for Answer as AnswerDisplay {
                 write!(f, "largest inside {}: {}", set.number, largest.number)
             }
             Answer::Fringes(set, inner, outer) => {
-                write!(f, "fringes of {}: inner {}, outer {}", set.number, inner.number, outer.number)
+                write!(
+                    f,
+                    "fringes of {}: inner {}, outer {}",
+                    set.number, inner.number, outer.number
+                )
             }
             Answer::SameState(a, b) => write!(f, "{} and {}: same state", a.number, b.number),
             Answer::DifferentStates(a, b) => {

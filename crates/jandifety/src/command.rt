@@ -27,7 +27,10 @@ pub enum Expected {
 pub impl fmt::Display for Expected as ExpectedDisplay {
     fn fmt<W: fmt::Write>(&self, f: &mut fmt::Formatter<W>) -> fmt::Result {
         match self {
-            Expected::Command => write!(f, "error: expected 'items', 'tell SET', 'largest SET', 'fringes SET' or 'compare SET SET'"),
+            Expected::Command => write!(
+                f,
+                "error: expected 'items', 'tell SET', 'largest SET', 'fringes SET' or 'compare SET SET'"
+            ),
             Expected::SetNumber => write!(f, "error: expected a set number from 0 to 4294967295"),
         }
     }
@@ -43,7 +46,10 @@ pub impl FromStr for Command as CommandFromStr {
             (Some("tell"), Some(set), None, _) => Ok(Command::Tell(set_number(set)?)),
             (Some("largest"), Some(set), None, _) => Ok(Command::Largest(set_number(set)?)),
             (Some("fringes"), Some(set), None, _) => Ok(Command::Fringes(set_number(set)?)),
-            (Some("compare"), Some(a), Some(b), None) => Ok(Command::Compare(set_number(a)?, set_number(b)?)),
+            (Some("compare"), Some(a), Some(b), None) => Ok(Command::Compare(
+                set_number(a)?,
+                set_number(b)?,
+            )),
             _ => Err(Expected::Command),
         }
     }

@@ -146,14 +146,14 @@ pub largest-more : (rows : List (List ℕ)) (row : List ℕ) (S U B : ℕ) → L
 unfolding LongestBeginning
 largest-more rows row S U B g l =
     largest-of (UnionOfBeginnings (rows ++ row ∷ [])) S (U ∪ B)
-      (subst (λ (X : ℕ). UnionOfBeginnings (rows ++ row ∷ []) (U ∪ X)) (sym (l .2)) (union-push rows row U (l .0) (g .is-state) (l .1)))
-      (∪-⊆ U B S (g .inside) (l .3))
-      (λ K u f.
-          let r = union-pop rows row K u in
-          let J = r .0 in
-          let C = set-of (take (r .1) row) in
-          let sub : J ∪ C ⊆ S = subst (λ (X : ℕ). X ⊆ S) (r .4) f in
-          let inJ : J ⊆ U = g .holds J (r .2) (⊆-trans J (J ∪ C) S (⊆-∪-left J C) sub) in
-          let le = l .4 (r .1) (r .3) (⊆-trans C (J ∪ C) S (⊆-∪-right J C) sub) in
-          let inC : C ⊆ B = subst (λ (X : ℕ). C ⊆ X) (sym (l .2)) (set-of-mono row (r .1) (l .0) le) in
-          subst (λ (X : ℕ). X ⊆ U ∪ B) (sym (r .4)) (∪-mono J C U B inJ inC))
+    (subst (λ (X : ℕ). UnionOfBeginnings (rows ++ row ∷ []) (U ∪ X)) (sym (l .2)) (union-push rows row U (l .0) (g .is-state) (l .1)))
+    (∪-⊆ U B S (g .inside) (l .3))
+    (λ K u f.
+    let r = union-pop rows row K u in
+    let J = r .0 in
+    let C = set-of (take (r .1) row) in
+    let sub : J ∪ C ⊆ S = subst (λ (X : ℕ). X ⊆ S) (r .4) f in
+    let inJ : J ⊆ U = g .holds J (r .2) (⊆-trans J (J ∪ C) S (⊆-∪-left J C) sub) in
+    let le = l .4 (r .1) (r .3) (⊆-trans C (J ∪ C) S (⊆-∪-right J C) sub) in
+    let inC : C ⊆ B = subst (λ (X : ℕ). C ⊆ X) (sym (l .2)) (set-of-mono row (r .1) (l .0) le) in
+    subst (λ (X : ℕ). X ⊆ U ∪ B) (sym (r .4)) (∪-mono J C U B inJ inC))

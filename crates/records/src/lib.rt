@@ -82,9 +82,14 @@ impl Trailer {
         if rows < 1 || rows > kind.max_rows() {
             return Err(Refusal::WrongRowCount(start + 2));
         }
-        if distance != u32::from(rows) * u32::from(kind.row_len(*items)) || u64::from(distance) != start {
+        if distance != u32::from(rows) * u32::from(kind.row_len(*items))
+            || u64::from(distance) != start
+        {
             return Err(Refusal::WrongDistance(start + 4));
         }
-        Ok(Trailer { items: *items, rows })
+        Ok(Trailer {
+            items: *items,
+            rows,
+        })
     }
 }

@@ -12,13 +12,14 @@ use Rattle.clauses.proofs.rows.is_among_four.Needs as need
 pub returns-then-k-lt4 : need.returns-then-k-lt4
 returns-then-k-lt4 c =
     let f = row (c .args .bytes .now) in
-    let k = c .args .k in
-    (λ _. subst (λ (i : ℕ). earlier f k i < 4) (sym (c .pre .own)) (few-early f k (c .pre .rises) (c .if-k-lt4 .taken)),
-     λ _. lt-ltb k 4 (c .if-k-lt4 .taken))
+    let k = c .args .k in (
+      λ _. subst (λ (i : ℕ). earlier f k i < 4) (sym (c .pre .own)) (few-early f k (c .pre .rises) (c .if-k-lt4 .taken)),
+      λ _. lt-ltb k 4 (c .if-k-lt4 .taken),
+    )
 
 pub returns-else-k-lt4 : need.returns-else-k-lt4
 returns-else-k-lt4 c =
     let f = row (c .args .bytes .now) in
     let k = c .args .k in
     subst (λ (i : ℕ). Decides (not (eqb (f (k - 4) .item) i)) (earlier f k i < 4)) (sym (c .pre .own))
-      (few-decides f k (c .pre .rises) (c .if-k-lt4 .left))
+    (few-decides f k (c .pre .rises) (c .if-k-lt4 .left))

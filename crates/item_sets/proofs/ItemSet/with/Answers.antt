@@ -15,8 +15,9 @@ returns-then-item-lt32 c =
     let i = c .args .item in
     let e : bitOr X ((1 * 2 ^ i) % 2 ^ 32) ≡ X ⊕ i = ap (bitOr X) (one-shl i 32 (c .if-item-lt32 .taken)) in
     record {
-      members = members-at _ _ _ e (λ j.
-        (λ h. ⊎-elim inl (λ s. inr (s, omega (arith, c .if-item-lt32 .taken))) (∈-with X i j .0 h),
-         λ s. ∈-with X i j .1 (⊎-elim inl (λ p. inr (p .0)) s)));
-      number = λ _. e
+      members = members-at _ _ _ e (λ j. (
+        λ h. ⊎-elim inl (λ s. inr (s, omega (arith, c .if-item-lt32 .taken))) (∈-with X i j .0 h),
+        λ s. ∈-with X i j .1 (⊎-elim inl (λ p. inr (p .0)) s),
+      ));
+      number = λ _. e;
     }

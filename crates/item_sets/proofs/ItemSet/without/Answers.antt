@@ -15,7 +15,8 @@ returns c =
     let left = c .difference .ensures .members in
     let fits : X < 2 ^ 32 = search needs in
     let all : Members (c .difference .result .number) (λ j. (j ∈ X) × (j ≡ i → ⊥)) =
-          λ j.
-          (λ h. let d = left j .0 h in (d .0, λ e. d .1 (only j .1 (inr (e, members-below X 32 fits j (d .0))))),
-           λ s. left j .1 (s .0, λ o. ⊎-elim (∉-empty j) (λ p. s .1 (p .0)) (only j .0 o))) in
+    λ j. (
+      λ h. let d = left j .0 h in (d .0, λ e. d .1 (only j .1 (inr (e, members-below X 32 fits j (d .0))))),
+      λ s. left j .1 (s .0, λ o. ⊎-elim (∉-empty j) (λ p. s .1 (p .0)) (only j .0 o)),
+    ) in
     record { members = all; number = same-members _ _ _ all (∈-without X i) }

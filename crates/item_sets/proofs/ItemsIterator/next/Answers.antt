@@ -14,5 +14,5 @@ returns c =
     let e = c .without-self .ensures .number in
     record {
       steps = (least, e);
-      goes = record { on = λ _. (tt, tt, subst (λ (n : ℕ). n < X) (sym e) (without-lt X (trailingZeros 32 X) (least .0))) }
+      goes = record { on = λ _. (tt, tt, subst (λ (n : ℕ). n < X) (sym e) (without-lt X (trailingZeros 32 X) (least .0))) };
     }

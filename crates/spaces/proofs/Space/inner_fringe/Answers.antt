@@ -10,7 +10,7 @@ loop-item-holds g c =
     let K = c .args .set .number in
     let state = g .Self·Space .state (c .args .self .now) in
     let from : c .into-iter-item-iterator .result .rest .number ≡ K =
-          ap (λ (s : Items). s .rest .number) (c .into-iter-item-iterator .ensures .becomes) ∙ c .items-item-items .ensures in
+    ap (λ (s : Items). s .rest .number) (c .into-iter-item-iterator .ensures .becomes) ∙ c .items-item-items .ensures in
     (subst (λ (R : ℕ). InnerSoFar state K R 0) (sym from) (inner-begins state K), inner-steps state K (search needs))
 
 pub returns : need.returns

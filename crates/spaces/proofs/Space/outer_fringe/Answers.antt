@@ -19,8 +19,9 @@ returns g c =
     let K = c .args .set .number in
     let G = g .Self·Space .ground (c .args .self .now) in
     let from : c .into-iter-item-iterator .result .rest .number ≡ c .difference .result .number =
-          ap (λ (s : Items). s .rest .number) (c .into-iter-item-iterator .ensures .becomes) ∙ c .items-item-items .ensures in
+    ap (λ (s : Items). s .rest .number) (c .into-iter-item-iterator .ensures .becomes) ∙ c .items-item-items .ensures in
     let outside : Members (c .into-iter-item-iterator .result .rest .number) (λ i. (i ∈ G) × (i ∉ K)) =
-          members-at _ _ _ from (subst (λ (X : ℕ). Members (c .difference .result .number) (λ i. (i ∈ X) × (i ∉ K))) (c .items .ensures) (c .difference .ensures .members)) in
-    (c .is-state .ensures .0 (c .if-not-is-state .left),
-     c .loop-item .inv .1 .ends G _ _ _ (c .loop-item .inv .0) (c .in-None .ensures tt .steps) outside)
+    members-at _ _ _ from (subst (λ (X : ℕ). Members (c .difference .result .number) (λ i. (i ∈ X) × (i ∉ K))) (c .items .ensures) (c .difference .ensures .members)) in (
+      c .is-state .ensures .0 (c .if-not-is-state .left),
+      c .loop-item .inv .1 .ends G _ _ _ (c .loop-item .inv .0) (c .in-None .ensures tt .steps) outside,
+    )

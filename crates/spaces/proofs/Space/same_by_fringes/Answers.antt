@@ -9,19 +9,25 @@ returns-then-eq g c =
     let G = g .Self·Space .ground (c .args .self .now) in
     let state = g .Self·Space .state (c .args .self .now) in
     let a = c .in-Continue-outer-a .ensures tt in
-    let b = c .in-Continue-outer-b .ensures tt in
-    (a .0, b .0,
-     decides-like _
-       (same-by-outer G state (g .Self·Space·met .laws (c .args .self .now)) _ _ _ _ (a .0) (b .0) (a .1) (b .1))
-       (same-fringe (Outer G state) _ _ _ _ (a .1) (b .1))
-       (c .eq-then-eq .ensures))
+    let b = c .in-Continue-outer-b .ensures tt in (
+      a .0,
+      b .0,
+      decides-like _
+          (same-by-outer G state (g .Self·Space·met .laws (c .args .self .now)) _ _ _ _ (a .0) (b .0) (a .1) (b .1))
+          (same-fringe (Outer G state) _ _ _ _ (a .1) (b .1))
+          (c .eq-then-eq .ensures),
+    )
 
 pub returns-else-eq : need.returns-else-eq
 returns-else-eq g c =
     let state = g .Self·Space .state (c .args .self .now) in
     let a = c .in-Continue-inner-a .ensures tt in
     let b = c .in-Continue-inner-b .ensures tt in
-    let differ = not-from-decides _ (c .eq .ensures) (c .if-eq .left) in
-    (a .0, b .0,
-     (λ t. absurd (not-from-decides _ (c .eq .ensures) (c .if-eq .left) (c .eq .ensures .0 t)),
-      λ e. absurd (differ (same-fringe (Inner state) _ _ _ _ (a .1) (b .1) e))))
+    let differ = not-from-decides _ (c .eq .ensures) (c .if-eq .left) in (
+      a .0,
+      b .0,
+      (
+        λ t. absurd (not-from-decides _ (c .eq .ensures) (c .if-eq .left) (c .eq .ensures .0 t)),
+        λ e. absurd (differ (same-fringe (Inner state) _ _ _ _ (a .1) (b .1) e)),
+      ),
+    )

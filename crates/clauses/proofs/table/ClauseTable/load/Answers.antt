@@ -36,14 +36,15 @@ returns c =
     let b = c .args .bytes .now in
     let s = c .in-Continue-list .ensures tt in
     let made = c .in-Continue-self .ensures tt in
-    let t = c .in-Continue-self .field-0 in
-    (record {
-       trailer = c .in-Continue-trailer .ensures tt .right;
-       right = s .right;
-       reachable = λ i h. reach-spelled b _ s i (made .1 i (subst (λ (n : ℕ). i < n) (sym (s .same-items)) h));
-     },
-     record {
-       same-items = ap (λ (l : ClauseList). l .items) (made .0) ∙ s .same-items;
-       same-length = ap (λ (l : ClauseList). l .len) (made .0) ∙ s .same-length;
-       same-clauses = λ k h. ap (λ (l : ClauseList). at (l .clauses) k) (made .0) ∙ s .same-clauses k h;
-     })
+    let t = c .in-Continue-self .field-0 in (
+      record {
+        trailer = c .in-Continue-trailer .ensures tt .right;
+        right = s .right;
+        reachable = λ i h. reach-spelled b _ s i (made .1 i (subst (λ (n : ℕ). i < n) (sym (s .same-items)) h));
+      },
+      record {
+        same-items = ap (λ (l : ClauseList). l .items) (made .0) ∙ s .same-items;
+        same-length = ap (λ (l : ClauseList). l .len) (made .0) ∙ s .same-length;
+        same-clauses = λ k h. ap (λ (l : ClauseList). at (l .clauses) k) (made .0) ∙ s .same-clauses k h;
+      },
+    )

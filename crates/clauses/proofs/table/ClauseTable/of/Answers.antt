@@ -20,10 +20,11 @@ returns-in-Some c =
     let few : l .items < 32 = omega (arith, l .bounds) in
     let i = c .in-Some .item in
     let least : Least (c .difference .result .number) i =
-          subst (λ (D : ℕ). Least D i) (c .items .ensures) (c .in-Some .ensures tt .steps .0) in
-    (i,
-     least-left l _ _ _ (c .all-below-all .ensures .number few) (c .largest-inside-reached .ensures .largest) (c .difference .ensures .members) i least,
-     ap (says 8 Table) (c .from .ensures))
+    subst (λ (D : ℕ). Least D i) (c .items .ensures) (c .in-Some .ensures tt .steps .0) in (
+      i,
+      least-left l _ _ _ (c .all-below-all .ensures .number few) (c .largest-inside-reached .ensures .largest) (c .difference .ensures .members) i least,
+      ap (says 8 Table) (c .from .ensures),
+    )
 
 pub returns-in-None : need.returns-in-None
 returns-in-None c =
