@@ -9,6 +9,5 @@ mod table;
 #[cfg(test)]
 mod tests;
 
-pub use clause::Clause;
 pub use space::ClauseTableSpace;
 pub use table::ClauseTable;

@@ -22,7 +22,7 @@ module _ (G : ℕ) (state : ℕ → Type 0) where
   Answers (command.Tell t) a = (state (t .number) × (a ≡ State t)) ⊎ ((state (t .number) → ⊥) × (a ≡ NoState t))
   Answers (command.Largest t) a = (l : ItemSet) × space.Largest state (t .number) (l .number) × (a ≡ Largest t l)
   Answers (command.Fringes t) a =
-      ((i : ItemSet) × (o : ItemSet) × Members (i .number) (space.Inner state (t .number)) × Members (o .number) (space.Outer G state (t .number)) × (a ≡ Fringes t i o))
+      (state (t .number) × (i : ItemSet) × (o : ItemSet) × Members (i .number) (space.Inner state (t .number)) × Members (o .number) (space.Outer G state (t .number)) × (a ≡ Fringes t i o))
       ⊎ ((e : Refusal) × space.NotAState state (t .number) e × (a ≡ Refused e))
   Answers (command.Compare s t) a =
       (state (s .number) × state (t .number) × (s .number ≡ t .number) × (a ≡ SameState s t))

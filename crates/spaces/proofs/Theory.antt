@@ -1,5 +1,7 @@
 -- What follows from the laws of a learning space alone.
 -- Assumes nothing.
+use mathlib.Core.Bool.{Bool}
+use Rattle.std.specs.Orderings.{Decides}
 use mathlib.Core.Path.{_≡_, refl, sym, ap, subst, _∙_}
 use mathlib.Core.List.{List, [], _∷_}
 use mathlib.Core.Logic.{_⊎_, inl, inr, ⊎-elim, _↔_}
@@ -11,7 +13,7 @@ use Rattle.std.specs.shelf.Lists.{All}
 use Rattle.item_sets.specs.Sets.{_∈_, _∉_, _⊆_, _∪_, _⊕_, _⊖_, Members}
 use Rattle.item_sets.proofs.Members.{∈-dec, ⊆-dec, ⊆-antisym, same-members, ⊆-refl, ⊆-trans, empty-⊆, ∈-with, ∈-without, ∪-⊆, ⊆-∪-left, ⊆-∪-right, with-has, ⊆-with, with-⊆, with-without, without-lt, part-lt, ⊆-le}
 use Rattle.spaces.specs.Laws.{LearningSpace}
-use Rattle.spaces.specs.Largest.{Largest, InStatesInside, Inner, Outer}
+use Rattle.spaces.specs.Largest.{Largest, InStatesInside, Inner, Outer, SameFringes}
 
 -- states one above the other, each with one item more
 pub data Chain (state : ℕ → Type 0) : ℕ → ℕ → Type 0 where
@@ -115,6 +117,14 @@ module _ (G : ℕ) (state : ℕ → Type 0) (laws : LearningSpace G state) where
       let there : (i : ℕ) → Outer G state K i → Outer G state M i = λ i o. inH i .0 (subst (λ (X : ℕ). i ∈ X) e (inF i .1 o)) in
       let back : (i : ℕ) → Outer G state M i → Outer G state K i = λ i o. inF i .0 (subst (λ (X : ℕ). i ∈ X) (sym e) (inH i .1 o)) in
       ⊆-antisym K M (half-by-fringe M K m k back) (half-by-fringe K M k m there)
+
+-- states are the same exactly where their fringes are
+module _ (G : ℕ) (state : ℕ → Type 0) (laws : LearningSpace G state) where
+  pub decides-fringes : (b : Bool) (K M : ℕ) → state K → state M → Decides b (K ≡ M) → Decides b (SameFringes G state K M)
+  decides-fringes b K M k m d = (
+    λ t. subst (λ (X : ℕ). SameFringes G state K X) (d .0 t) (λ i. ((λ h. h, λ h. h), (λ h. h, λ h. h))),
+    λ s. d .1 (⊆-antisym K M (half-by-fringe G state laws M K m k (λ i. s i .1 .1)) (half-by-fringe G state laws K M k m (λ i. s i .1 .0))),
+  )
 
 -- and one state has one fringe
 pub same-fringe : (P : ℕ → ℕ → Type 0) (K M F H : ℕ) → Members F (P K) → Members H (P M) → K ≡ M → F ≡ H

@@ -1,7 +1,7 @@
 -- Largest states inside sets, and the fringes of states, in a family of states.
 -- Assumes nothing.
 use mathlib.Core.Bool.{Bool}
-use mathlib.Core.Logic.{_⊎_}
+use mathlib.Core.Logic.{_⊎_, _↔_}
 use mathlib.Core.Path.{_≡_}
 use Prim.Native.Nat.{ℕ}
 use Rattle.std.specs.Orderings.{Decides}
@@ -42,7 +42,12 @@ abbrev pub Fringe : (ℕ → Type 0) → (ℕ → Type 0) → ℕ → Result Ite
 Fringe state P K (Ok f) = state K × Members (f .number) P
 Fringe state P K (Err e) = NotAState state K e
 
--- what a call gives that is asked whether the states K and M are the same; of two that are none, K is told
-abbrev pub Compared : (ℕ → Type 0) → ℕ → ℕ → Result Bool Refusal → Type 0
-Compared state K M (Ok same) = state K × state M × Decides same (K ≡ M)
-Compared state K M (Err e) = NotAState state K e ⊎ (state K × NotAState state M e)
+-- the states K and M have the same inner and the same outer fringe
+abbrev pub SameFringes : ℕ → (ℕ → Type 0) → ℕ → ℕ → Type 0
+SameFringes G state K M = (i : ℕ) → (Inner state K i ↔ Inner state M i) × (Outer G state K i ↔ Outer G state M i)
+
+-- what a call gives that is asked whether the states K and M are the same: they are so exactly where their fringes are the same.
+-- Of two that are no states, K is told
+abbrev pub Compared : ℕ → (ℕ → Type 0) → ℕ → ℕ → Result Bool Refusal → Type 0
+Compared G state K M (Ok same) = state K × state M × Decides same (SameFringes G state K M) × Decides same (K ≡ M)
+Compared G state K M (Err e) = NotAState state K e ⊎ (state K × NotAState state M e)

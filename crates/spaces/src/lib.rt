@@ -81,7 +81,7 @@ pub trait Space {
 
     // Whether two states are the same, by their fringes alone.
     fn same_by_fringes(&self, a: ItemSet, b: ItemSet) -> Result<bool, Refusal>
-        ensures { λ r. ⌜ Compared (state (now (self .entry))) (a .number) (b .number) r ⌝ }
+        ensures { λ r. ⌜ Compared (ground (now (self .entry))) (state (now (self .entry))) (a .number) (b .number) r ⌝ }
     {
         let inner_a = self.inner_fringe(a)?;
         let outer_a = self.outer_fringe(a)?;
