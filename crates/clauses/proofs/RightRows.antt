@@ -4,7 +4,7 @@ use Rattle.std.proofs.Common.{◌≡◌, ℕ, zero, suc, ◌+◌, ◌*◌, ◌^�
 use Rattle.item_sets.specs.Sets.{◌∈◌, ◌∉◌, ◌⊆◌, Members}
 use Rattle.records.specs.declared.Kind.TheVariants.{Clauses}
 use Rattle.records.specs.declared.Trailer.{Trailer}
-use Rattle.records.specs.Format.{Says, of_length, of-items, of-rows, of-distance}
+use Rattle.records.specs.Format.{Says, of_length, of_items, of_rows, of_distance}
 use Rattle.clauses.specs.declared.clause.Clause.{Clause}
 use Rattle.clauses.specs.Clauses.{earlier, Right}
 use Rattle.item_sets.proofs.Members.{members_below, number_below}
@@ -42,10 +42,10 @@ module _ (f g : ℕ → Clause) where
 -- what a right trailer says of the rows' places
 module _ (b : List ℕ) (t : Trailer) (s : Says Clauses b t) where
   pub row_within : (k : ℕ) → k < t.rows → 5 * k + 5 ≤ length b
-  row_within k h = omega (arith, s.right of-distance, s.right of_length, s.same_rows)
+  row_within k h = omega (arith, s.right of_distance, s.right of_length, s.same_rows)
 
   pub few_rows : t.rows ≤ 120
-  few_rows = omega (arith, s.right of-rows, s.same_rows)
+  few_rows = omega (arith, s.right of_rows, s.same_rows)
 
   pub few_items : (1 ≤ t.items) × (t.items ≤ 30)
-  few_items = omega (arith, s.right of-items, s.same_items)
+  few_items = omega (arith, s.right of_items, s.same_items)

@@ -1,4 +1,5 @@
 // Clause tables: which skill needs which others.
+#![tactic(auto)]
 mod build;
 mod clause;
 mod list;

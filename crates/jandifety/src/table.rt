@@ -1,7 +1,7 @@
 // What the program needs of a sort of table: a name, loading, and the number of rows.
 ghost use Rattle.std.specs.Prelude.{◌≡◌, ℕ, List, MatchResult};
 ghost use Rattle.refusals.specs.Report.{Report, report};
-ghost use Rattle.records.specs.Format.{items, rows as told-rows};
+ghost use Rattle.records.specs.Format.{items, rows as told_rows};
 ghost use Rattle.clauses.specs.Loading.{Lawful, Holds, row, Refused};
 ghost use Rattle.records.specs.Format.{Right};
 ghost use Rattle.records.specs.declared.Kind.TheVariants.{Orders};
@@ -36,7 +36,7 @@ pub trait Table: Space {
 impl Table for ClauseTable {
     const NAME: &'static str = "clauses";
 
-    ghost spelled = { λ b t. Lawful b × Holds t (items b) (told-rows b) (row b) };
+    ghost spelled = { λ b t. Lawful b × Holds t (items b) (told_rows b) (row b) };
 
     ghost refused = { λ b e. Refused b e };
 

@@ -7,7 +7,7 @@ use Rattle.std.proofs.ByRecursion.{All-from_get_or}
 use Rattle.std.proofs.lemmas.List.FromFn.{map-range_with_len_more, length-map-range_with_len, get_or-map-range_with_len}
 use Rattle.refusals.specs.Report.{says}
 use Rattle.refusals.specs.declared.Layer.TheVariants.{Record}
-use Rattle.records.specs.Format.{items, rows, Right, of-items, of-rows, of-distance}
+use Rattle.records.specs.Format.{items, rows, Right, of_items, of_rows, of_distance}
 use Rattle.records.specs.declared.Kind.TheVariants.{Orders}
 use Rattle.orders.specs.Orders.{Order}
 use Rattle.orders.specs.Rows.{cut, rows_of, are_orders}
@@ -24,7 +24,7 @@ ends_before n m d l r e f h =
     omega (arith, suc-mul r n)
 
 row_ends : (b : List ℕ) → Right Orders b → (r : ℕ) → r < rows b → r * items b + items b ≤ length b
-row_ends b t r h = let d = t of-distance in ends_before (items b) (rows b) _ (length b) r d.0 d.1 h
+row_ends b t r h = let d = t of_distance in ends_before (items b) (rows b) _ (length b) r d.0 d.1 h
 
 row_long : (b : List ℕ) → Right Orders b → (r : ℕ) → r < rows b → length (row b r) ≡ items b
 row_long b t r h =
@@ -92,9 +92,9 @@ pub reading : (b : List ℕ) (n m : ℕ) → Right Orders b → n ≡ items b �
 unfolding Read
 reading b n m t en em =
     record {
-      some_items = subst (λ (k : ℕ). 1 ≤ k) (sym en) (t of-items).0;
+      some_items = subst (λ (k : ℕ). 1 ≤ k) (sym en) (t of_items).0;
       few_items = few;
-      some_rows = subst (λ (k : ℕ). 1 ≤ k) (sym em) (t of-rows).0;
+      some_rows = subst (λ (k : ℕ). 1 ≤ k) (sym em) (t of_rows).0;
       few_rows = room;
       fits = λ r h. part_ends b t n r en (here r h);
       short = λ r h. let long : length (part b n r) ≡ n = part_long b t n r en (here r h) in omega (arith, few);
@@ -124,10 +124,10 @@ reading b n m t en em =
     }
   where
     few : n ≤ 30
-    few = subst (λ (k : ℕ). k ≤ 30) (sym en) (t of-items).1
+    few = subst (λ (k : ℕ). k ≤ 30) (sym en) (t of_items).1
 
     room : m ≤ 16
-    room = subst (λ (k : ℕ). k ≤ 16) (sym em) (t of-rows).1
+    room = subst (λ (k : ℕ). k ≤ 16) (sym em) (t of_rows).1
 
     here : (r : ℕ) → r < m → r < rows b
     here r h = subst (λ (k : ℕ). r < k) em h

@@ -1,4 +1,5 @@
 // Order tables: learning spaces that are given by a few orders in which the items can be taught.
+#![tactic(auto)]
 mod row;
 mod table;
 #[cfg(test)]

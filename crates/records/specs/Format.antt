@@ -54,30 +54,30 @@ distance b = four_bytes b (trailer b + 4)
 -- ---- the checks of the trailer
 
 pub data Check : Type 0 where
-  of_length of-kind of-items of-rows of-distance : Check
+  of_length of_kind of_items of_rows of_distance : Check
 
 abbrev pub number : Check → ℕ
 number of_length = 1
-number of-kind = 2
-number of-items = 3
-number of-rows = 4
-number of-distance = 5
+number of_kind = 2
+number of_items = 3
+number of_rows = 4
+number of_distance = 5
 
 -- what a check asks of a record of this kind of table
 abbrev pub Asks : Kind → List ℕ → Check → Type 0
 Asks k b of_length = 8 ≤ length b
-Asks k b of-kind = kind b ≡ code k
-Asks k b of-items = (1 ≤ items b) × (items b ≤ 30)
-Asks k b of-rows = (1 ≤ rows b) × (rows b ≤ most_rows k)
-Asks k b of-distance = (distance b ≡ rows b * row_length k (items b)) × (distance b ≡ trailer b)
+Asks k b of_kind = kind b ≡ code k
+Asks k b of_items = (1 ≤ items b) × (items b ≤ 30)
+Asks k b of_rows = (1 ≤ rows b) × (rows b ≤ most_rows k)
+Asks k b of_distance = (distance b ≡ rows b * row_length k (items b)) × (distance b ≡ trailer b)
 
 -- the place that is told where a check fails: the record's length, or the offset of the wrong field
 abbrev pub place : List ℕ → Check → ℕ
 place b of_length = length b
-place b of-kind = trailer b
-place b of-items = trailer b + 1
-place b of-rows = trailer b + 2
-place b of-distance = trailer b + 4
+place b of_kind = trailer b
+place b of_items = trailer b + 1
+place b of_rows = trailer b + 2
+place b of_distance = trailer b + 4
 
 -- the trailer is right
 abbrev pub Right : Kind → List ℕ → Type 0

@@ -1,8 +1,10 @@
 // Table records: what the trailer of a record says, and the checks that every kind of table shares.
+#![tactic(auto)]
+
 ghost use Rattle.std.specs.Prelude.{◌≡◌, MatchOption, MatchResult};
 ghost use Rattle.refusals.specs.Report.{report};
 ghost use Rattle.records.specs.Format.{code, OfKind, Says, Refused};
-ghost use Rattle.records.specs.Format.{most_rows as most, row_length as row-bytes};
+ghost use Rattle.records.specs.Format.{most_rows as most, row_length as row_bytes};
 
 use refusals::Refusal;
 
@@ -46,7 +48,7 @@ impl Kind {
 
     // How many bytes a row has, in a table of so many items.
     pub fn row_len(self, items: u8) -> u8
-        ensures { result ≡ row-bytes self items }
+        ensures { result ≡ row_bytes self items }
     {
         match self {
             Kind::Clauses => 5,

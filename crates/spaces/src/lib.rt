@@ -1,4 +1,6 @@
 // The interface of a learning space, and all that follows from its laws alone.
+#![tactic(auto)]
+
 ghost use Rattle.std.specs.Prelude.{◌≡◌, ℕ, Decides};
 ghost use Rattle.refusals.specs.declared.Layer.TheVariants.{Listing};
 ghost use Rattle.refusals.specs.Report.{report, says};
