@@ -15,24 +15,24 @@ returns g c =
     let X = c.args.set.number in
     let both : Members W (λ i. (i ∈ g.Self.Space.ground c.args.self.now) × (i ∈ X)) =
     subst (λ (G : ℕ). Members W (λ i. (i ∈ G) × (i ∈ X))) c.items.ensures c.intersection-within.ensures in
-    c.loop-item.invariant.1.ends _ X _ _ _ _ (g.met.Self.Space.laws c.args.self.now) c.loop-item.invariant.0 c.in-default.ensures.steps
+    c.loop-item.invariant.1.ends _ X _ _ _ _ (g.met.Self.Space.laws c.args.self.now) c.loop-item.invariant.0 c.in_default.ensures.steps
     c.items-in-loop-item.ensures both
 
-pub loop-item-smaller-then-is-state : goal.loop-item-smaller-then-is-state
-loop-item-smaller-then-is-state g c =
+pub loop-item-smaller-then-is_state : goal.loop-item-smaller-then-is_state
+loop-item-smaller-then-is_state g c =
     c.loop-item.invariant.1.falls _ _ _ _ _ _ _ _ c.loop-item.invariant.0 c.in-Some.ensures.steps c.items-in-loop-item.ensures
-    c.with-grown.ensures.number c.is-state.ensures c.if-is-state.true c.difference-untried.ensures.members (search rules)
+    c.with-grown.ensures.number c.is_state.ensures c.if-is_state.true c.difference-untried.ensures.members (search rules)
 
-pub loop-item-preserved-then-is-state : goal.loop-item-preserved-then-is-state
-loop-item-preserved-then-is-state g c = (
+pub loop-item-preserved-then-is_state : goal.loop-item-preserved-then-is_state
+loop-item-preserved-then-is_state g c = (
   c.loop-item.invariant.1.adds _ _ _ _ _ _ _ _ c.loop-item.invariant.0 c.in-Some.ensures.steps c.items-in-loop-item.ensures
-      c.with-grown.ensures.number c.is-state.ensures c.if-is-state.true c.difference-untried.ensures.members,
+      c.with-grown.ensures.number c.is_state.ensures c.if-is_state.true c.difference-untried.ensures.members,
   c.loop-item.invariant.1,
 )
 
 pub loop-item-preserved : goal.loop-item-preserved
 loop-item-preserved g c = (
   c.loop-item.invariant.1.passes _ _ _ _ _ _ _ _ c.loop-item.invariant.0 c.in-Some.ensures.steps c.items-in-loop-item.ensures
-      c.with-grown.ensures.number c.is-state.ensures c.if-is-state.false c.without-untried.ensures.number,
+      c.with-grown.ensures.number c.is_state.ensures c.if-is_state.false c.without-untried.ensures.number,
   c.loop-item.invariant.1,
 )

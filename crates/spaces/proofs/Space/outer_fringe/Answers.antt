@@ -8,7 +8,7 @@ use Rattle.spaces.proofs.Space.outer_fringe.Goals as goal
 pub loop-item-init : goal.loop-item-init
 loop-item-init g c =
     let K = c.args.set.number in
-    let C = c.into-iter-item-iterator.result.rest.number in
+    let C = c.into_iter-item-iterator.result.rest.number in
     let state = g.Self.Space.state c.args.self.now in
     (outer_begins state K C, outer_steps state K C (search rules))
 
@@ -16,10 +16,10 @@ pub returns : goal.returns
 returns g c =
     let K = c.args.set.number in
     let G = g.Self.Space.ground c.args.self.now in
-    let from : c.into-iter-item-iterator.result.rest.number ≡ c.difference.result.number =
-    ap (λ (s : Items). s.rest.number) c.into-iter-item-iterator.ensures.into-iter-gives ∙ c.items-item-items.ensures in
-    let outside : Members c.into-iter-item-iterator.result.rest.number (λ i. (i ∈ G) × (i ∉ K)) =
+    let from : c.into_iter-item-iterator.result.rest.number ≡ c.difference.result.number =
+    ap (λ (s : Items). s.rest.number) c.into_iter-item-iterator.ensures.into_iter_gives ∙ c.items-item-items.ensures in
+    let outside : Members c.into_iter-item-iterator.result.rest.number (λ i. (i ∈ G) × (i ∉ K)) =
     members_at _ _ _ from (subst (λ (X : ℕ). Members c.difference.result.number (λ i. (i ∈ X) × (i ∉ K))) c.items.ensures c.difference.ensures.members) in (
-      c.is-state.ensures.0 c.if-not-is-state.false,
+      c.is_state.ensures.0 c.if-not-is_state.false,
       c.loop-item.invariant.1.ends G _ _ _ c.loop-item.invariant.0 c.in-None.ensures.steps outside,
     )
