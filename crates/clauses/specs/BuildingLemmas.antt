@@ -3,7 +3,8 @@
 use Rattle.std.specs.Prelude.{◌≡◌, ℕ, zero, suc, ◌-◌, ◌<◌, ◌≤◌, ◌⊎◌, ◌≢◌, refl}
 use Rattle.std.proofs.Common.{sym, ap, subst, ◌∙◌, inl, inr, le_refl, not-suc-le-zero, arith}
 use mathlib.Core.HLevel.{⊥_prop}
-use Rattle.std.proofs.Math.Logic.{Dec·and, Dec·not, ∥∥₁_elim}
+use mathlib.Core.Logic.Dec
+use Rattle.std.proofs.Math.Logic.{∥∥₁_elim}
 use Rattle.std.proofs.Math.Decide.{ℕ_discrete}
 use Rattle.item_sets.specs.Sets.{◌∈◌, ◌∉◌, ◌⊆◌, ◌∪◌, ◌⊕◌, ◌⊖◌}
 use Rattle.item_sets.proofs.Members.{∈_dec, ⊆_antisym, ⊆_trans, ⊆-∪_right, empty_⊆, with_has, ⊆-with, with-⊆, with_present, without-with, part_lt, ⊆_le}
@@ -65,7 +66,7 @@ module _ (G : ℕ) (met : ℕ → ℕ → Type 0) where
       grow X zero B b f h = absurd (not-suc-le-zero h)
       grow X (suc fuel) B b f h =
           elim (some_below (λ i. ((i ∈ G) × (i ∈ X)) × ((i ∉ B) × met i B))
-          (λ i. Dec·and (Dec·and (∈_dec i G) (∈_dec i X)) (Dec·and (Dec·not (∈_dec i B)) (met_dec i B))) N) [
+          (λ i. Dec.and (Dec.and (∈_dec i G) (∈_dec i X)) (Dec.and (Dec.not (∈_dec i B)) (met_dec i B))) N) [
             | inl found ↦
                 let i = found.0 in
                 let new : i ∉ B = found.2.1.0 in

@@ -2,7 +2,7 @@
 -- Assumes nothing.
 use Rattle.std.specs.Prelude.{◌≡◌, ℕ, ◌<◌, ◌≤◌, ◌⊎◌, ◌↔◌, List, refl}
 use Rattle.std.proofs.Common.{sym, ap, subst, inl, inr, le_refl, arith}
-use Rattle.std.proofs.Math.Logic.{Dec·and}
+use mathlib.Core.Logic.Dec
 use Rattle.std.proofs.Math.Decide.{ℕ_discrete}
 use Rattle.item_sets.specs.Sets.{◌∈◌, ◌∉◌, ◌⊆◌, first, Members, Least}
 use Rattle.item_sets.proofs.Members.{∈_dec, ∈-first, ∉_empty, ⊆_antisym, ⊆_refl, ⊆_dec}
@@ -22,7 +22,7 @@ use Rattle.clauses.specs.Passes.{met_stays}
 met_dec : (len : ℕ) (f : ℕ → Clause) (i X : ℕ) → Dec (Met len f i X)
 met_dec len f i X =
     elim (some_below (λ k. ((f k).item ≡ i) × ((f k).alternative.number ⊆ X))
-    (λ k. Dec·and (ℕ_discrete (f k).item i) (⊆_dec (f k).alternative.number X)) len) [
+    (λ k. Dec.and (ℕ_discrete (f k).item i) (⊆_dec (f k).alternative.number X)) len) [
       | inl found ↦ yes (found.0, found.1, found.2.0, found.2.1)
       | inr rest ↦ no (λ m. rest m.0 m.1 (m.2, m.3))
     ]

@@ -1,5 +1,6 @@
 // Clause tables: which skill needs which others.
 #![tactic(auto)]
+
 mod build;
 mod clause;
 mod list;

@@ -1,5 +1,6 @@
 // Order tables: learning spaces that are given by a few orders in which the items can be taught.
 #![tactic(auto)]
+
 mod row;
 mod table;
 #[cfg(test)]

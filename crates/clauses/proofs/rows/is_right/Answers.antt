@@ -12,14 +12,14 @@ returns c =
     let b = c.args.bytes.now in
     let k = c.args.k in
     let n = c.args.n in
-    let q = c.clause-at-clause.result in
-    let is : q ≡ row b k = c.clause-at-clause.ensures in
+    let q = c.clause_at-clause.result in
+    let is : q ≡ row b k = c.clause_at-clause.ensures in
     let same : n ≡ items b = c.requires.items.1 in
     let fits = inside_others n q.item q.alternative.number _ _ c.requires.items.0 c.all_below.ensures.members c.without-others.ensures.members in
     let ordered : (j : ℕ) → j + 1 ≡ k → (row b j).item ≤ q.item = search rules in
     let few : earlier (row b) k q.item < 4 = search rules in (
       λ t.
-          let apart = fits.0 (c.is-inside.ensures.0 t) in
+          let apart = fits.0 (c.is_inside.ensures.0 t) in
           record {
             item_below = subst (λ (m : ℕ). (row b k).item < m) same (subst (λ (x : Clause). x.item < n) is c.if-clause-n.false);
             in_order = subst (λ (x : Clause). (j : ℕ) → j + 1 ≡ k → (row b j).item ≤ x.item) is ordered;
@@ -28,7 +28,7 @@ returns c =
             of_others = subst (λ (x : Clause). x.item ∉ x.alternative.number) is apart.1;
           },
       λ r.
-          c.is-inside.ensures.1 (fits.1 (
+          c.is_inside.ensures.1 (fits.1 (
             subst (λ (x : Clause). x.alternative.number < 2 ^ n) (sym is) (subst (λ (m : ℕ). (row b k).alternative.number < 2 ^ m) (sym same) r.inside),
             subst (λ (x : Clause). x.item ∉ x.alternative.number) (sym is) r.of_others,
           )),

@@ -1,6 +1,6 @@
 use Rattle.std.proofs.Common.{◌≡◌, ℕ, ◌<◌, ◌≤◌, sym, subst, arith, rules}
 use lib.Arith.{lt_of_le-ne}
-use Rattle.std.proofs.lemmas.Bool.Decides.{not_from_Decides}
+use Rattle.std.proofs.lemmas.Bool.Decides.{not_from_Decides, Decides-at, Decides-eqb}
 use Rattle.item_sets.proofs.Members.{empty_⊆, ⊆_le}
 use Rattle.clauses.specs.Building.{none}
 use Rattle.spaces.proofs.Theory.{state_from_largest}
@@ -16,7 +16,7 @@ returns-then-eq c =
     let l = c.args.self.now in
     let X = c.args.within.number in
     let B = c.loop-within.built.number in
-    let same : c.pass-next.result.number ≡ B = c.eq.ensures.0 c.if-eq.true in
+    let same : c.pass-next.result.number ≡ B = (Decides-at _ _ c.eq.ensures (Decides-eqb _ _)).0 c.if-eq.true in
     let largest = pass_ends l X B (subst (λ (C : ℕ). Pass l X B C l.len) same c.pass-next.ensures) in
     record { largest = largest; exact = state_from_largest (Builds l) X B largest }
 
@@ -24,6 +24,6 @@ pub loop-within-smaller : goal.loop-within-smaller
 loop-within-smaller c =
     let B = c.loop-within.built.number in
     let C = c.pass-next.result.number in
-    let more : B < C = lt_of_le-ne (⊆_le B C c.pass-next.ensures.grows) (λ e. not_from_Decides _ c.eq.ensures c.if-eq.false (sym e)) in
+    let more : B < C = lt_of_le-ne (⊆_le B C c.pass-next.ensures.grows) (λ e. not_from_Decides _ (Decides-at _ _ c.eq.ensures (Decides-eqb _ _)) c.if-eq.false (sym e)) in
     let most : C ≤ c.args.within.number = ⊆_le _ _ c.pass-next.ensures.inside in
     omega arith

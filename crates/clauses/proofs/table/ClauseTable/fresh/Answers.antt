@@ -2,8 +2,8 @@ use Rattle.std.proofs.Common.{refl, lit≤}
 use Rattle.clauses.proofs.Fresh.{fresh_right, fresh_reachable}
 use Rattle.clauses.proofs.table.ClauseTable.fresh.Goals as goal
 
-pub invariant-of-list : goal.invariant-of-list
-invariant-of-list c = ((lit≤ tt, lit≤ tt, lit≤ tt), (λ k h. ∣ fresh_right _ refl k h ∣₁, tt))
+pub invariant_of-list : goal.invariant_of-list
+invariant_of-list c = record { bounds = (lit≤ tt, lit≤ tt, lit≤ tt); alternatives = λ k h. ∣ fresh_right _ refl k h ∣₁ }
 
-pub invariant-of-result : goal.invariant-of-result
-invariant-of-result c = (λ i h. ∣ fresh_reachable _ refl i h ∣₁, tt)
+pub invariant_of-result : goal.invariant_of-result
+invariant_of-result c = record { reachable = λ i h. ∣ fresh_reachable _ refl i h ∣₁ }

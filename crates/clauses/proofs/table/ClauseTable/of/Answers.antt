@@ -5,12 +5,12 @@ use Rattle.item_sets.specs.Sets.{first, Least}
 use Rattle.clauses.specs.Reaching.{all_reached, least_left}
 use Rattle.clauses.proofs.table.ClauseTable.of.Goals as goal
 
-pub invariant-of-result : goal.invariant-of-result
-invariant-of-result c =
+pub invariant_of-result : goal.invariant_of-result
+invariant_of-result c =
     let l = c.args.list in
     let few : l.items < 32 = omega (arith, l.bounds) in
     let none = sym c.items.ensures ∙ c.in-None.ensures.steps.0 in
-    (λ i h. ∣ all_reached l _ _ _ (c.all-below-all.ensures.number few) c.largest-inside-reached.ensures.largest c.difference.ensures.members none i h ∣₁, tt)
+    record { reachable = λ i h. ∣ all_reached l _ _ _ (c.all_below-all.ensures.number few) c.largest_inside-reached.ensures.largest c.difference.ensures.members none i h ∣₁ }
 
 pub returns-in-Some : goal.returns-in-Some
 returns-in-Some c =
@@ -20,7 +20,7 @@ returns-in-Some c =
     let least : Least c.difference.result.number i =
     subst (λ (D : ℕ). Least D i) c.items.ensures c.in-Some.ensures.steps.0 in (
       i,
-      least_left l _ _ _ (c.all-below-all.ensures.number few) c.largest-inside-reached.ensures.largest c.difference.ensures.members i least,
+      least_left l _ _ _ (c.all_below-all.ensures.number few) c.largest_inside-reached.ensures.largest c.difference.ensures.members i least,
       ap (says 8 Table) c.from.ensures,
     )
 
@@ -29,4 +29,4 @@ returns-in-None c =
     let l = c.args.list in
     let few : l.items < 32 = omega (arith, l.bounds) in
     let none = sym c.items.ensures ∙ c.in-None.ensures.steps.0 in
-    (refl, all_reached l _ _ _ (c.all-below-all.ensures.number few) c.largest-inside-reached.ensures.largest c.difference.ensures.members none)
+    (refl, all_reached l _ _ _ (c.all_below-all.ensures.number few) c.largest_inside-reached.ensures.largest c.difference.ensures.members none)
