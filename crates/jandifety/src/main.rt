@@ -1,5 +1,6 @@
 // Loads a table and answers questions about it: one from the command line, or those of standard input, a line each.
 #![tactic(auto)]
+
 mod answer;
 mod command;
 mod table;
