@@ -1,5 +1,6 @@
 // Holds the library against a plain trial of all subsets, for many small tables of both kinds.
 #![tactic(auto)]
+
 mod answer;
 mod general;
 mod generator;

@@ -1,5 +1,6 @@
 // Trees of words, the order in which their nodes are listed, and the tray that a listing is written into.
 #![tactic(auto)]
+
 mod count;
 mod full;
 mod listed;

@@ -1,6 +1,6 @@
 use Rattle.trees.proofs.Filling.{filled_begins, filled_more, filled_node, filled_at, fill_steps}
 use Rattle.trees.proofs.tray.fill.Goals as goal
-use Rattle.trees.proofs.tray.fill.Goals.{else-loop-written-test, then-loop-written-test+in-default}
+use Rattle.trees.proofs.tray.fill.Goals.{else-loop-written-test, then-loop-written-test+in_default}
 
 pub loop-written-init : goal.loop-written-init
 loop-written-init g c = filled_begins _ _ (g.met.T.Tree.laws c.args.tree.now) _ _
@@ -14,14 +14,14 @@ next-wanted-next-requires g c =
 
 pub loop-written-preserved : goal.loop-written-preserved
 loop-written-preserved g c =
-    filled_more _ _ (g.met.T.Tree.laws c.args.tree.now) _ _ _ _ _ c.loop-written.invariant _ c.in-Some.is c.loop-written-test.true _ c.next-wanted-next.ensures
+    filled_more _ _ (g.met.T.Tree.laws c.args.tree.now) _ _ _ _ _ c.loop-written.invariant _ c.in-Some.is c.loop-written-test.true _ c.next_wanted-next.ensures
 
 pub returns : goal.returns
 returns g c =
     let laws = g.met.T.Tree.laws c.args.tree.now in
-    let filled = filled_at _ _ laws _ _ _ _ _ c.loop-written.invariant c.args.after c.first-due-next.ensures in
+    let filled = filled_at _ _ laws _ _ _ _ _ c.loop-written.invariant c.args.after c.first_due-next.ensures in
     let steps = fill_steps _ _ laws c.args.after c.args.places.now in
     elim c.loop-written-test.branch [
-      | else-loop-written-test w ↦ steps.full _ _ _ _ filled w.loop-written-test.false c.is-some.ensures
-      | then-loop-written-test+in-default w ↦ steps.none_left _ _ _ _ filled w.in-default.is c.is-some.ensures
+      | else-loop-written-test w ↦ steps.full _ _ _ _ filled w.loop-written-test.false c.is_some.ensures
+      | then-loop-written-test+in_default w ↦ steps.none_left _ _ _ _ filled w.in-default.is c.is_some.ensures
     ]

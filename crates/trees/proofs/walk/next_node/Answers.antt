@@ -9,7 +9,7 @@ returns-in-Some g c =
 pub loop-parent-init : goal.loop-parent-init
 loop-parent-init g c =
     let laws = g.met.T.Tree.laws c.args.tree.now in
-    (climbing _ _ laws c.args.node c.requires.node.0 c.requires.node.1 c.in-default.ensures, climb_steps _ _ laws c.args.node)
+    (climbing _ _ laws c.args.node c.requires.node.0 c.requires.node.1 c.in_default.ensures, climb_steps _ _ laws c.args.node)
 
 pub overflow-add-letter : goal.overflow-add-letter
 overflow-add-letter g c =
@@ -25,9 +25,9 @@ loop-parent-smaller g c = c.loop-parent.invariant.1.falls c.loop-parent.done _ _
 
 pub loop-parent-preserved : goal.loop-parent-preserved
 loop-parent-preserved g c = (
-  c.loop-parent.invariant.1.up c.loop-parent.done _ _ c.loop-parent.invariant.0 c.in-Some-parent.ensures c.in-default-first-child.ensures,
+  c.loop-parent.invariant.1.up c.loop-parent.done _ _ c.loop-parent.invariant.0 c.in-Some-parent.ensures c.in_default-first_child.ensures,
   c.loop-parent.invariant.1,
 )
 
 pub returns : goal.returns
-returns g c = c.loop-parent.invariant.1.ends c.loop-parent.done c.loop-parent.invariant.0 c.in-default-parent.ensures
+returns g c = c.loop-parent.invariant.1.ends c.loop-parent.done c.loop-parent.invariant.0 c.in_default-parent.ensures
