@@ -1,11 +1,11 @@
 -- The fresh table is lawful: its one clause is right, and its one item can be reached.
 -- Assumes nothing.
-use Rattle.std.proofs.Common.{◌≡◌, ℕ, ◌^◌, ◌<◌, ◌≤◌, sym, refl, ap, ◌∙◌, subst, arith, lit<}
-use Rattle.item_sets.specs.Sets.{◌∈◌, ◌∉◌, ◌⊆◌, first, ◌⊕◌}
+use Rattle.std.proofs.Common.{◌≡◌, ℕ, ◌^◌, ◌<◌, sym, ap, subst, arith, lit<}
+use Rattle.item_sets.specs.Sets.{◌∉◌, ◌⊆◌, ◌⊕◌}
 use Rattle.item_sets.proofs.Members.{∈-first, ∉_empty, empty_⊆, with_has}
 use Rattle.clauses.specs.declared.clause.Clause.{Clause}
 use Rattle.clauses.specs.Building.{none, add}
-use Rattle.clauses.specs.Clauses.{Right, Reachable, earlier}
+use Rattle.clauses.specs.Clauses.{Right, Reachable}
 use Rattle.clauses.specs.Loading.{free_clause}
 
 module _ (f : ℕ → Clause) (free : f 0 ≡ free_clause) where

@@ -1,6 +1,6 @@
 -- When a row is right.
 -- Assumes nothing.
-use Rattle.std.proofs.Common.{◌≡◌, ℕ, zero, suc, ◌+◌, ◌*◌, ◌^◌, ◌<◌, ◌≤◌, cond, eqb, ◌↔◌, List, length, sym, refl, subst, ap₂, subst₂, arith}
+use Rattle.std.proofs.Common.{◌≡◌, ℕ, zero, suc, ◌+◌, ◌*◌, ◌^◌, ◌<◌, ◌≤◌, cond, eqb, ◌↔◌, List, length, refl, subst, ap₂, subst₂, arith}
 use Rattle.item_sets.specs.Sets.{◌∈◌, ◌∉◌, ◌⊆◌, Members}
 use Rattle.records.specs.declared.Kind.TheVariants.{Clauses}
 use Rattle.records.specs.declared.Trailer.{Trailer}

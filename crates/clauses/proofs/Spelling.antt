@@ -1,6 +1,6 @@
 -- A list that a record spells builds what the record's rows build.
 -- Assumes nothing.
-use Rattle.std.proofs.Common.{◌≡◌, ℕ, ◌<◌, List, sym, ap, ◌∙◌, subst, subst₂, arith}
+use Rattle.std.proofs.Common.{◌≡◌, ℕ, ◌<◌, List, sym, subst, subst₂}
 use Rattle.item_sets.specs.Sets.{◌⊆◌, first}
 use Rattle.records.specs.Format.{items, rows}
 use Rattle.clauses.specs.declared.clause.Clause.{Clause}

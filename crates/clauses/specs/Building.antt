@@ -1,6 +1,6 @@
 -- Sets that can be built from the empty set, one item at a time.
 -- Assumes nothing.
-use Rattle.std.specs.Prelude.{◌≡◌, ℕ}
+use Rattle.std.specs.Prelude.{ℕ}
 use Rattle.item_sets.specs.Sets.{◌∈◌, ◌∉◌, ◌⊆◌, ◌⊕◌}
 
 -- G is the set of all items, and `met i X` says that item i can be added to the set X.

@@ -1,7 +1,7 @@
 -- What can be built makes a learning space, whatever the conditions are, as long as they stay met and the whole can be built.
 -- Assumes nothing.
-use Rattle.std.specs.Prelude.{◌≡◌, ℕ, zero, suc, ◌-◌, ◌<◌, ◌≤◌, ◌⊎◌, ◌≢◌, refl}
-use Rattle.std.proofs.Common.{sym, ap, subst, ◌∙◌, inl, inr, le_refl, not-suc-le-zero, arith}
+use Rattle.std.specs.Prelude.{ℕ, zero, suc, ◌-◌, ◌<◌, ◌≤◌, ◌⊎◌, ◌≢◌, refl}
+use Rattle.std.proofs.Common.{sym, subst, ◌∙◌, inl, inr, le_refl, not-suc-le-zero, arith}
 use mathlib.Core.HLevel.{⊥_prop}
 use mathlib.Core.Logic.Dec
 use Rattle.std.proofs.Math.Logic.{∥∥₁_elim}

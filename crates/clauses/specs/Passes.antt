@@ -1,7 +1,7 @@
 -- Going through the clauses: what a pass adds can be built, and a pass that adds nothing shows that nothing is left to add.
 -- Assumes nothing.
-use Rattle.std.specs.Prelude.{◌≡◌, ℕ, ◌+◌, ◌<◌, ◌≤◌, refl}
-use Rattle.std.proofs.Common.{sym, subst, arith, below_more}
+use Rattle.std.specs.Prelude.{◌≡◌, ℕ, ◌+◌, ◌<◌, refl}
+use Rattle.std.proofs.Common.{sym, subst, below_more}
 use Rattle.std.proofs.Math.Logic.{∥∥₁_elim}
 use Rattle.std.proofs.Math.Bridge.{le_prop}
 use Rattle.item_sets.specs.Sets.{◌∈◌, ◌⊆◌, ◌⊕◌, first}
@@ -10,8 +10,8 @@ use Rattle.spaces.specs.Largest.{Largest}
 use Rattle.spaces.proofs.Theory.{largest_of}
 use Rattle.clauses.specs.declared.clause.Clause.{Clause}
 use Rattle.clauses.specs.declared.list.ClauseList.{ClauseList}
-use Rattle.clauses.specs.Building.{Built, add}
-use Rattle.clauses.specs.Clauses.{at, Right, Met, State}
+use Rattle.clauses.specs.Building.{add}
+use Rattle.clauses.specs.Clauses.{at, Met}
 use Rattle.clauses.specs.Tables.{Builds, Pass}
 use Rattle.clauses.specs.BuildingLemmas.{closed_holds}
 

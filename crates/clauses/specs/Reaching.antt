@@ -1,18 +1,17 @@
 -- Clause tables are learning spaces; and what the largest set that their clauses build says of each item.
 -- Assumes nothing.
-use Rattle.std.specs.Prelude.{◌≡◌, ℕ, ◌<◌, ◌≤◌, ◌⊎◌, ◌↔◌, List, refl}
-use Rattle.std.proofs.Common.{sym, ap, subst, inl, inr, le_refl, arith}
+use Rattle.std.specs.Prelude.{◌≡◌, ℕ, ◌<◌, ◌≤◌, ◌↔◌}
+use Rattle.std.proofs.Common.{sym, subst, inl, inr, arith}
 use mathlib.Core.Logic.Dec
 use Rattle.std.proofs.Math.Decide.{ℕ_discrete}
 use Rattle.item_sets.specs.Sets.{◌∈◌, ◌∉◌, ◌⊆◌, first, Members, Least}
-use Rattle.item_sets.proofs.Members.{∈_dec, ∈-first, ∉_empty, ⊆_antisym, ⊆_refl, ⊆_dec}
+use Rattle.item_sets.proofs.Members.{∈_dec, ∈-first, ∉_empty, ⊆_dec}
 use Rattle.spaces.specs.Largest.{Largest}
 use Rattle.spaces.specs.Laws.{LearningSpace}
 use Rattle.clauses.specs.declared.clause.Clause.{Clause}
 use Rattle.clauses.specs.declared.list.ClauseList.{ClauseList}
 use Rattle.clauses.specs.declared.table.ClauseTable.{ClauseTable}
-use Rattle.clauses.specs.Building.{Built, none, add}
-use Rattle.clauses.specs.Clauses.{at, Met, State, Reachable}
+use Rattle.clauses.specs.Clauses.{at, Met, Reachable}
 use Rattle.clauses.specs.Loading.{LeastUnreachable}
 use Rattle.clauses.specs.Tables.{Builds}
 use Rattle.clauses.specs.BuildingLemmas.{some_below, whole_from_items, built_space, built_inside}

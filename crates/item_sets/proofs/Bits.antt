@@ -1,9 +1,9 @@
 -- The bits of a number: of sums bit by bit, of powers of two, and that they determine it.
 -- Assumes nothing.
-use Rattle.std.proofs.Common.{◌≡◌, ℕ, zero, suc, ◌+◌, ◌-◌, ◌*◌, ◌/◌, ◌%◌, ◌^◌, ◌<◌, ◌≤◌, min, max, ◌⊎◌, sym, refl, ap, ◌∙◌, subst, ap₂, inl, inr, ⊎_elim, suc-le-suc, zero-le, le_of_eq, le_refl, lt_of_lt_of_le, le_of_suc-le-suc, not-suc-le-zero, mod-lt, zero-lt-suc, add_comm, one-mul, pow-suc, div-add-mod', div-one, add-one, one-add, arith, lit<, pow_pos, pow_mono, pow-add, shr-shr}
+use Rattle.std.proofs.Common.{◌≡◌, ℕ, zero, suc, ◌+◌, ◌-◌, ◌*◌, ◌/◌, ◌%◌, ◌^◌, ◌<◌, ◌≤◌, min, max, ◌⊎◌, sym, refl, ap, ◌∙◌, ap₂, inl, inr, ⊎_elim, suc-le-suc, zero-le, le_of_eq, le_refl, lt_of_lt_of_le, le_of_suc-le-suc, not-suc-le-zero, mod-lt, zero-lt-suc, one-mul, pow-suc, div-add-mod', div-one, one-add, arith, lit<, pow_pos, pow_mono, pow-add, shr-shr}
 use Prim.Native.Nat.{differ}
-use native.Mathlib.Nat.{zero-min, zero-sub, mul-mod_left, div-eq_of_lt, zero-div, zero-mod}
-use native.Mathlib.Decide.{dec_lt, dec_le}
+use native.Mathlib.Nat.{zero-min, zero-sub, mul-mod_left, div-eq_of_lt, zero-div}
+use native.Mathlib.Decide.{dec_lt}
 use lib.Arith.{bin_ind, digits_mod}
 use lib.Pow.{pow-lt, shl-shr}
 use lib.Bits.{bit_and, bit_or, bit_xor, and_step, or_step, xor_step, and_shr, or_shr, xor_shr, xor_add_and}

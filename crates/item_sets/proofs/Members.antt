@@ -1,11 +1,11 @@
 -- What membership says of set numbers: unions, differences, single items, sizes, and that the members determine the number.
 -- Assumes nothing.
-use Rattle.std.proofs.Common.{◌≡◌, ℕ, zero, suc, ◌+◌, ◌-◌, ◌/◌, ◌%◌, ◌^◌, ◌<◌, ◌≤◌, min, max, ◌⊎◌, ◌↔◌, sym, refl, ap, ◌∙◌, subst, inl, inr, ⊎_elim, le_refl, le_of_suc-le-suc, not-suc-le-zero, add-zero, pow-suc, arith, pow_pos}
+use Rattle.std.proofs.Common.{◌≡◌, ℕ, zero, suc, ◌+◌, ◌-◌, ◌/◌, ◌%◌, ◌^◌, ◌<◌, ◌≤◌, max, ◌⊎◌, sym, refl, ap, ◌∙◌, subst, inl, inr, ⊎_elim, le_refl, not-suc-le-zero, pow-suc, arith, pow_pos}
 use native.Mathlib.Decide.{dec_lt, ℕ_discrete}
 use lib.Bits.{bit_and, bit_or, or_add_and, and_le_r}
 use lib.Arith.{lt_of_le-ne}
 use lib.Count.{ones, ones_step, count_trailing_zeros}
-use Rattle.item_sets.specs.Sets.{bit, ◌∈◌, ◌∉◌, ◌⊆◌, Members, ◌∪◌, ◌∖◌, ◌⊕◌, ◌⊖◌, first, below, size, Least}
+use Rattle.item_sets.specs.Sets.{bit, ◌∈◌, ◌∉◌, ◌⊆◌, Members, ◌∪◌, ◌∖◌, ◌⊕◌, ◌⊖◌, first, below, Least}
 use Rattle.item_sets.proofs.Bits.{bit_lt, bit-bit_and, bit-bit_or, bit_less, bit_half, bit_zero, same_bits, bits_of_none, bit_pow_same, bit_pow_other, bit_high, below_from_bits, bit_ones, zero_or_one, trailing_set, trailing_clear}
 
 -- ---- whether an item is in a set is decided

@@ -1,5 +1,6 @@
 // Sets of items as set numbers: the sum of 2^i over the items i of the set.
 #![tactic(auto)]
+
 ghost use Rattle.std.specs.Prelude.{◌≡◌, ℕ, ◌<◌, ◌⊎◌, Decides};
 ghost use Rattle.item_sets.specs.Sets.{◌∈◌, ◌∉◌, ◌⊆◌, ◌∪◌, ◌∖◌, ◌⊕◌, ◌⊖◌, first, size, Members};
 ghost use Rattle.item_sets.specs.Iteration.{Steps};

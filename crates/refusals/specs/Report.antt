@@ -1,6 +1,6 @@
 -- What a refusal says: its number, its layer and its place, for every case.
 -- Assumes nothing.
-use Rattle.std.specs.Prelude.{◌≡◌, ℕ, List, ◌++◌, codes, decimal}
+use Rattle.std.specs.Prelude.{ℕ, List, ◌++◌, codes, decimal}
 use Rattle.refusals.specs.declared.Layer.{Layer}
 use Rattle.refusals.specs.declared.Layer.TheVariants.{Record, Table, Listing}
 use Rattle.refusals.specs.declared.Refusal.{Refusal}

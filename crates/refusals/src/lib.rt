@@ -1,5 +1,6 @@
 // What is refused: every refusal of the product, with its number, its layer and its place.
 #![tactic(auto)]
+
 ghost use Rattle.std.specs.Prelude.{◌≡◌, Some};
 ghost use Rattle.refusals.specs.Report.{report, word, line};
 

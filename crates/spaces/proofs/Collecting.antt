@@ -1,12 +1,12 @@
 -- Collecting the items of a set that pass a test, one after the other.
 -- Assumes nothing.
-use Rattle.std.proofs.Common.{◌≡◌, ℕ, ◌^◌, ◌<◌, Bool, true, false, ◌⊎◌, Some, None, Decides, sym, refl, subst, inl, inr, ⊎_elim}
+use Rattle.std.proofs.Common.{◌≡◌, ℕ, ◌^◌, ◌<◌, Bool, true, false, ◌⊎◌, Some, None, Decides, sym, refl, subst, inl, inr}
 use native.Mathlib.Decide.{ℕ_discrete}
 use Rattle.std.proofs.lemmas.Bool.Decides.{not_from_Decides}
 use Rattle.item_sets.specs.Iteration.{Steps}
 use Rattle.spaces.specs.Largest.{Inner, Outer}
 use Rattle.item_sets.specs.Sets.{◌∈◌, ◌∉◌, ◌⊆◌, ◌⊕◌, ◌⊖◌, Members}
-use Rattle.item_sets.proofs.Members.{∈_dec, ∉_empty, ∈-with, ∈-without, ⊆_refl, members_below}
+use Rattle.item_sets.proofs.Members.{∉_empty, ∈-without, ⊆_refl, members_below}
 
 -- F holds the items of C with P, of those that are no longer in R
 pub record Collected (C : ℕ) (P : ℕ → Type 0) (R F : ℕ) : Type 0 where

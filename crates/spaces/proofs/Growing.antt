@@ -1,11 +1,11 @@
 -- Growing a state item by item.
 -- Assumes nothing.
-use Rattle.std.proofs.Common.{◌≡◌, ℕ, ◌+◌, ◌-◌, ◌*◌, ◌^◌, ◌<◌, ◌≤◌, Bool, true, false, ◌⊎◌, Some, None, Decides, sym, refl, ◌∙◌, subst, inl, inr, ⊎_elim, arith}
+use Rattle.std.proofs.Common.{◌≡◌, ℕ, ◌+◌, ◌-◌, ◌*◌, ◌^◌, ◌<◌, ◌≤◌, Bool, true, false, Some, None, Decides, sym, ◌∙◌, subst, arith}
 use native.Mathlib.Decide.{ℕ_discrete}
 use Rattle.std.proofs.lemmas.Bool.Decides.{not_from_Decides}
 use Rattle.item_sets.specs.Iteration.{Steps}
 use Rattle.item_sets.specs.Sets.{◌∈◌, ◌∉◌, ◌⊆◌, ◌⊕◌, ◌⊖◌, Members}
-use Rattle.item_sets.proofs.Members.{∈_dec, ∉_empty, ∈-without, ⊆_refl, ⊆_trans, ⊆-with, with_has, with-⊆, with_present, without_lt, part_lt, ⊆_le, empty_⊆, members_below}
+use Rattle.item_sets.proofs.Members.{∉_empty, ∈-without, ⊆_refl, ⊆-with, with_has, with-⊆, part_lt, ⊆_le, empty_⊆, members_below}
 use Rattle.spaces.specs.Laws.{LearningSpace}
 use Rattle.spaces.specs.Largest.{Largest}
 use Rattle.spaces.proofs.Theory.{largest_closed}

@@ -1,13 +1,13 @@
 -- What follows from the laws of a learning space alone.
 -- Assumes nothing.
-use Rattle.std.proofs.Common.{◌≡◌, ℕ, zero, suc, ◌+◌, ◌-◌, ◌<◌, ◌≤◌, Bool, ◌⊎◌, ◌↔◌, List, [], ◌∷◌, Decides, sym, refl, ap, ◌∙◌, subst, inl, inr, ⊎_elim, le_refl, not-suc-le-zero, arith}
+use Rattle.std.proofs.Common.{◌≡◌, ℕ, zero, suc, ◌-◌, ◌<◌, ◌≤◌, Bool, ◌↔◌, List, [], ◌∷◌, Decides, sym, subst, le_refl, not-suc-le-zero, arith}
 use mathlib.Core.Logic.Dec
 use native.Mathlib.Decide.{ℕ_discrete}
 use Rattle.std.specs.List.{AllByRecursion as All}
 use Rattle.item_sets.specs.Sets.{◌∈◌, ◌∉◌, ◌⊆◌, ◌∪◌, ◌⊕◌, ◌⊖◌, Members}
-use Rattle.item_sets.proofs.Members.{∈_dec, ⊆_dec, ⊆_antisym, same_members, ⊆_refl, ⊆_trans, empty_⊆, ∈-with, ∈-without, ∪-⊆, ⊆-∪_left, ⊆-∪_right, with_has, ⊆-with, with-⊆, with-without, without_lt, part_lt, ⊆_le}
+use Rattle.item_sets.proofs.Members.{⊆_dec, ⊆_antisym, same_members, ⊆_refl, ⊆_trans, empty_⊆, ∈-without, ∪-⊆, ⊆-∪_left, ⊆-∪_right, with_has, ⊆-with, with-⊆, with-without, without_lt, part_lt, ⊆_le}
 use Rattle.spaces.specs.Laws.{LearningSpace}
-use Rattle.spaces.specs.Largest.{Largest, InStatesInside, Inner, Outer, SameFringes}
+use Rattle.spaces.specs.Largest.{Largest, Outer, SameFringes}
 
 -- states one above the other, each with one item more
 pub data Chain (state : ℕ → Type 0) : ℕ → ℕ → Type 0 where

@@ -1,4 +1,4 @@
-use Rattle.std.proofs.Common.{◌≡◌, ℕ, ◌-◌, ◌<◌, not, eqb, Decides, sym, subst}
+use Rattle.std.proofs.Common.{ℕ, ◌-◌, ◌<◌, not, eqb, Decides, sym, subst}
 use Rattle.std.proofs.lemmas.Bool.{lt-ltb}
 use Rattle.clauses.specs.Clauses.{earlier}
 use Rattle.clauses.specs.Loading.{row}

@@ -1,8 +1,8 @@
-use Rattle.std.proofs.Common.{◌≡◌, ℕ, ◌+◌, ◌^◌, ◌<◌, ◌≤◌, true, false, not, sym, subst, arith, rules}
-use Rattle.item_sets.specs.Sets.{◌∈◌, ◌∉◌}
+use Rattle.std.proofs.Common.{◌≡◌, ℕ, ◌+◌, ◌^◌, ◌<◌, ◌≤◌, sym, subst, rules}
+use Rattle.item_sets.specs.Sets.{◌∉◌}
 use Rattle.records.specs.Format.{items}
 use Rattle.clauses.specs.declared.clause.Clause.{Clause}
-use Rattle.clauses.specs.Clauses.{earlier, Right}
+use Rattle.clauses.specs.Clauses.{earlier}
 use Rattle.clauses.specs.Loading.{row}
 use Rattle.clauses.proofs.RightRows.{inside_others}
 use Rattle.clauses.proofs.rows.is_right.Goals as goal

@@ -1,4 +1,4 @@
-use Rattle.std.proofs.Common.{◌≡◌, ℕ, lit<, rules}
+use Rattle.std.proofs.Common.{rules}
 use Rattle.item_sets.specs.Sets.{◌∖◌}
 use Rattle.item_sets.proofs.Bits.{and_not}
 use Rattle.item_sets.proofs.Members.{∈-∖, members_at}

@@ -1,4 +1,4 @@
-use Rattle.std.proofs.Common.{eqb, sym, ap, ◌∙◌, rules}
+use Rattle.std.proofs.Common.{sym, ◌∙◌, rules}
 use Rattle.std.proofs.lemmas.Bool.Decides.{Decides-eqb, Decides-like}
 use Rattle.item_sets.specs.Sets.{◌∖◌}
 use Rattle.item_sets.proofs.Bits.{and_not}

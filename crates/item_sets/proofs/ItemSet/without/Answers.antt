@@ -1,4 +1,4 @@
-use Rattle.std.proofs.Common.{◌≡◌, ℕ, ◌^◌, ◌<◌, inl, inr, ⊎_elim, rules}
+use Rattle.std.proofs.Common.{◌≡◌, ◌^◌, ◌<◌, inr, ⊎_elim, rules}
 use Rattle.item_sets.specs.Sets.{◌∈◌, Members}
 use Rattle.item_sets.proofs.Members.{∈-without, same_members, members_below, ∉_empty}
 use Rattle.item_sets.proofs.ItemSet.without.Goals as goal

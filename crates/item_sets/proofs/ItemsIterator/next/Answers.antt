@@ -1,6 +1,5 @@
 use Rattle.std.proofs.Common.{ℕ, ◌^◌, ◌<◌, sym, subst, rules}
 use lib.Count.{count_trailing_zeros}
-use Rattle.item_sets.specs.Sets.{◌⊖◌}
 use Rattle.item_sets.proofs.Members.{trailing_least, without_lt}
 use Rattle.item_sets.proofs.ItemsIterator.next.Goals as goal
 use Rattle.std.proofs.iter.Next.{firm}

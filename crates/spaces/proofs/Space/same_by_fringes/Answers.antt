@@ -1,4 +1,4 @@
-use Rattle.std.proofs.Common.{◌≡◌, Decides}
+use Rattle.std.proofs.Common.{Decides}
 use Rattle.std.proofs.lemmas.Bool.Decides.{not_from_Decides, Decides-at, Decides-eqb, Decides-like}
 use Rattle.spaces.specs.Largest.{Inner, Outer}
 use Rattle.spaces.proofs.Theory.{same_by_outer, same_fringe, decides_fringes}

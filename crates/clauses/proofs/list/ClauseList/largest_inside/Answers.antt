@@ -1,4 +1,4 @@
-use Rattle.std.proofs.Common.{◌≡◌, ℕ, ◌<◌, ◌≤◌, sym, subst, arith, rules}
+use Rattle.std.proofs.Common.{◌≡◌, ℕ, ◌<◌, ◌≤◌, sym, subst, arith}
 use lib.Arith.{lt_of_le-ne}
 use Rattle.std.proofs.lemmas.Bool.Decides.{not_from_Decides, Decides-at, Decides-eqb}
 use Rattle.item_sets.proofs.Members.{empty_⊆, ⊆_le}

@@ -1,4 +1,4 @@
-use Rattle.std.proofs.Common.{◌≡◌, ℕ, ◌+◌, ◌-◌, ◌<◌, Decides, sym, ap, ◌∙◌, subst, arith, get_or-take, rules}
+use Rattle.std.proofs.Common.{◌≡◌, ◌+◌, ◌-◌, ◌<◌, Decides, sym, ap, ◌∙◌, subst, arith, get_or-take, rules}
 use Rattle.std.proofs.lemmas.Bool.Decides.{not_from_Decides}
 use Rattle.item_sets.specs.declared.ItemSet.{ItemSet}
 use Rattle.item_sets.specs.Sets.{◌∈◌, ◌⊆◌, ◌⊕◌}

@@ -1,4 +1,4 @@
-use Rattle.std.proofs.Common.{◌≡◌, ℕ, ◌<◌, ◌≤◌, ◌≢◌, length, sym, ◌∙◌, subst, arith, length-set, get_or-set_other, get_or-set_same, rules, below_more}
+use Rattle.std.proofs.Common.{ℕ, ◌<◌, ◌≢◌, length, sym, ◌∙◌, subst, arith, length-set, get_or-set_other, get_or-set_same, below_more}
 use Rattle.clauses.specs.Clauses.{at, Right}
 use Rattle.clauses.specs.Loading.{row}
 use Rattle.clauses.proofs.RightRows.{right_agree, row_within, few_rows, few_items}

@@ -1,8 +1,6 @@
-use Rattle.std.proofs.Common.{◌≡◌, ℕ, ◌<◌, sym, refl, ap, ◌∙◌, subst}
+use Rattle.std.proofs.Common.{ℕ, ◌<◌, sym, refl, ap, ◌∙◌, subst}
 use Rattle.std.proofs.lemmas.Result.{err_from_is_err_and}
-use Rattle.refusals.specs.Report.{Report}
-use Rattle.records.specs.Format.{items}
-use Rattle.clauses.specs.Clauses.{at, Reachable}
+use Rattle.clauses.specs.Clauses.{at}
 use Rattle.clauses.specs.Loading.{Refused, by_trailer, by_row, by_item}
 use Rattle.clauses.specs.declared.list.ClauseList.{ClauseList}
 use Rattle.clauses.proofs.Spelling.{reach_spelled, least_spelled}

@@ -1,7 +1,7 @@
-use Rattle.std.proofs.Common.{◌≡◌, ℕ, ◌<◌, sym, refl, ap, ◌∙◌, subst, arith}
+use Rattle.std.proofs.Common.{ℕ, ◌<◌, sym, refl, ap, ◌∙◌, subst, arith}
 use Rattle.refusals.specs.Report.{says}
 use Rattle.refusals.specs.declared.Layer.TheVariants.{Table}
-use Rattle.item_sets.specs.Sets.{first, Least}
+use Rattle.item_sets.specs.Sets.{Least}
 use Rattle.clauses.specs.Reaching.{all_reached, least_left}
 use Rattle.clauses.proofs.table.ClauseTable.of.Goals as goal
 
