@@ -1,9 +1,9 @@
 -- Going on with a listing until nothing is left.
 -- Assumes nothing.
-use Rattle.std.proofs.Common.{◌≡◌, ℕ, suc, ◌+◌, ◌-◌, ◌^◌, ◌<◌, ◌≤◌, min, ◌⊎◌, List, [], ◌∷◌, ◌++◌, length, Some, None, Option, sym, refl, ap, ◌∙◌, subst, inl, inr, ⊎_elim, suc-le-suc, zero-lt-suc, arith}
+use Rattle.std.proofs.Common.{◌≡◌, ℕ, suc, ◌+◌, ◌-◌, ◌^◌, ◌<◌, min, List, [], ◌∷◌, ◌++◌, length, Some, None, Option, sym, refl, subst, ⊎_elim, suc-le-suc, zero-lt-suc, arith}
 use Rattle.std.specs.List.{AllByRecursion as All}
 use Rattle.std.proofs.lemmas.List.{length_push}
-use Rattle.trees.specs.Listings.{Among, Before, Due, Listing, Left, FullListing, Counted}
+use Rattle.trees.specs.Listings.{Among, Due, Listing, Left, FullListing, Counted}
 use Rattle.trees.specs.Trees.{Node, Laws}
 use Rattle.trees.specs.Walking.{FirstOf}
 use Rattle.trees.proofs.Filling.{ListingSoFar, listing_begins, listing_more}

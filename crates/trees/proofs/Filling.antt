@@ -1,6 +1,6 @@
 -- Filling the places of a tray one by one with the nodes that are due.
 -- Assumes nothing.
-use Rattle.std.proofs.Common.{◌≡◌, ℕ, suc, ◌+◌, ◌-◌, ◌<◌, ◌≤◌, Bool, true, false, ◌⊎◌, List, [], ◌∷◌, ◌++◌, length, drop, set, is_some, Some, None, Decides, Option, sym, refl, ap, ◌∙◌, subst, inl, inr, ⊎_elim, append_assoc, append-nil, zero-le, le_refl, arith, length-append, length-drop}
+use Rattle.std.proofs.Common.{◌≡◌, ℕ, ◌+◌, ◌<◌, ◌≤◌, Bool, List, [], ◌∷◌, ◌++◌, length, drop, set, is_some, Some, None, Decides, Option, sym, refl, ap, ◌∙◌, subst, inl, inr, ⊎_elim, append_assoc, zero-le, arith, length-append, length-drop}
 use mathlib.Core.Bool.{false≢true}
 use Rattle.std.specs.List.{AllByRecursion as All}
 use Rattle.std.proofs.ByRecursion.{All-push, All-weaker}
@@ -8,7 +8,6 @@ use Rattle.std.proofs.lemmas.List.{length_push, drop_more, set_at}
 use Rattle.trees.specs.Listings.{Among, Before, Rising, Due, Listing, Left, Written}
 use Rattle.trees.specs.Trees.{Node, Laws}
 use Rattle.trees.specs.Walking.{FirstOf}
-use Rattle.trees.specs.declared.listed.Listed.{Listed}
 use Rattle.trees.proofs.Passing.{before_trans}
 
 -- ---- one entry more at the end of a list

@@ -1,13 +1,13 @@
 -- The walk: the first node after a given one is its first child, or else a later child of a node on the way to the root.
 -- Assumes nothing.
-use Rattle.std.proofs.Common.{◌≡◌, ℕ, suc, ◌+◌, ◌<◌, ◌≤◌, ◌⊎◌, List, [], ◌∷◌, ◌++◌, length, Some, None, sym, refl, ap, ◌∙◌, subst, inl, inr, ⊎_elim, append_assoc, append-nil, zero-le, arith, length-append}
-use native.Mathlib.Decide.{ℕ_discrete, dec_lt}
+use Rattle.std.proofs.Common.{◌≡◌, ℕ, ◌+◌, ◌<◌, ◌≤◌, ◌⊎◌, List, [], ◌∷◌, ◌++◌, length, Some, None, sym, ap, ◌∙◌, subst, inl, inr, ⊎_elim, append_assoc, append-nil, zero-le, arith, length-append}
+use native.Mathlib.Decide.{ℕ_discrete}
 use Rattle.std.specs.List.{AllByRecursion as All}
 use Rattle.trees.specs.Listings.{Before}
 use Rattle.trees.specs.Trees.{Node, Further, Parent, Laws}
 use Rattle.trees.specs.Walking.{FirstChild, FirstOf}
 use Rattle.trees.specs.Words.{◌≺◌}
-use Rattle.trees.proofs.Words.{≺_irrefl, ≺_trans, ≺_cases, ≺_along, ≺_rest, ≺_between, snoc_cases}
+use Rattle.trees.proofs.Words.{≺_irrefl, ≺_cases, ≺_along, ≺_rest, ≺_between, snoc_cases}
 
 not_before_empty : (w : List ℕ) → w ≺ [] → ⊥
 unfolding ◌≺◌

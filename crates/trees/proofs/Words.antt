@@ -1,7 +1,7 @@
 -- The listing order is a total order; what lies between two words with a common beginning has that beginning; and words of at
 -- most 30 letters have ranks that rise with it.
 -- Assumes nothing.
-use Rattle.std.proofs.Common.{◌≡◌, ℕ, zero, suc, ◌+◌, ◌*◌, ◌^◌, ◌<◌, ◌≤◌, ◌⊎◌, List, [], ◌∷◌, ◌++◌, length, sym, refl, ap, ◌∙◌, subst, ap₂, subst₂, inl, inr, ⊎_elim, append_assoc, suc-le-suc, zero-le, le_of_suc-le-suc, not-suc-le-zero, mul-le-mul_right, suc-mul, pow-suc, arith, lit≤, length-append}
+use Rattle.std.proofs.Common.{◌≡◌, ℕ, zero, suc, ◌+◌, ◌*◌, ◌^◌, ◌<◌, ◌≤◌, ◌⊎◌, List, [], ◌∷◌, ◌++◌, length, sym, refl, ap, ◌∙◌, ap₂, inl, inr, ⊎_elim, suc-le-suc, zero-le, le_of_suc-le-suc, not-suc-le-zero, mul-le-mul_right, suc-mul, pow-suc, arith, lit≤}
 use native.Mathlib.Decide.{ℕ_discrete, dec_lt}
 use native.Mathlib.Nat.{one-le-pow}
 use Rattle.std.specs.List.{AllByRecursion as All}

@@ -4,8 +4,8 @@ use Rattle.trees.proofs.count.count.Goals as goal
 pub loop-next-init : goal.loop-next-init
 loop-next-init g c = counting _ _ (g.met.T.Tree.laws c.args.tree.now) _ c.first_due-next.ensures
 
-pub next-wanted-next-requires : goal.next-wanted-next-requires
-next-wanted-next-requires g c =
+pub next_wanted-next-requires : goal.next_wanted-next-requires
+next_wanted-next-requires g c =
     record { sound = c.requires; node = counted_node _ _ (g.met.T.Tree.laws c.args.tree.now) _ _ c.loop-next.invariant _ c.in-Some.is }
 
 pub loop-next-smaller : goal.loop-next-smaller

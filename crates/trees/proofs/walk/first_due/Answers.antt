@@ -2,10 +2,10 @@ use Rattle.std.proofs.lemmas.Bool.Decides.{not_from_Decides}
 use Rattle.trees.proofs.Passing.{root_due, after_root}
 use Rattle.trees.proofs.walk.first_due.Goals as goal
 
-pub returns-then-is-wanted : goal.returns-then-is-wanted
-returns-then-is-wanted g c =
-    root_due _ _ (g.met.T.Tree.laws c.args.tree.now) _ c.in-None.is _ c.root-root.ensures (c.is_wanted.ensures.0 c.if-is-wanted.true)
+pub returns-then-is_wanted : goal.returns-then-is_wanted
+returns-then-is_wanted g c =
+    root_due _ _ (g.met.T.Tree.laws c.args.tree.now) _ c.in-None.is _ c.root-root.ensures (c.is_wanted.ensures.0 c.if-is_wanted.true)
 
-pub returns-else-is-wanted : goal.returns-else-is-wanted
-returns-else-is-wanted g c =
-    after_root _ _ (g.met.T.Tree.laws c.args.tree.now) _ c.in-None.is _ c.root-root.ensures (not_from_Decides _ c.is_wanted.ensures c.if-is-wanted.false) _ c.next-wanted-else-is-wanted.ensures
+pub returns-else-is_wanted : goal.returns-else-is_wanted
+returns-else-is_wanted g c =
+    after_root _ _ (g.met.T.Tree.laws c.args.tree.now) _ c.in-None.is _ c.root-root.ensures (not_from_Decides _ c.is_wanted.ensures c.if-is_wanted.false) _ c.next_wanted-else-is_wanted.ensures

@@ -6,9 +6,9 @@ loop-next-init g c =
     let laws = g.met.T.Tree.laws c.args.tree.now in
     (passing _ _ laws c.args.node c.requires.node, pass_steps _ _ laws c.args.node)
 
-pub next-node-requires : goal.next-node-requires
-next-node-requires g c = record { sound = c.requires.sound; node = passed_node _ _ _ _ c.loop-next.invariant.0 }
+pub next_node-requires : goal.next_node-requires
+next_node-requires g c = record { sound = c.requires.sound; node = passed_node _ _ _ _ c.loop-next.invariant.0 }
 
-pub returns-then-is-wanted : goal.returns-then-is-wanted
-returns-then-is-wanted g c =
-    c.loop-next.invariant.1.found c.loop-next.last c.in-Some.next _ c.loop-next.invariant.0 c.in-Some.ensures c.is_wanted.ensures c.if-is-wanted.true
+pub returns-then-is_wanted : goal.returns-then-is_wanted
+returns-then-is_wanted g c =
+    c.loop-next.invariant.1.found c.loop-next.last c.in-Some.next _ c.loop-next.invariant.0 c.in-Some.ensures c.is_wanted.ensures c.if-is_wanted.true
