@@ -8,7 +8,7 @@ use item_sets::ItemSet;
 use spaces::Space;
 
 impl Space for ClauseTable {
-    ghost ground = { λ t. first t.list.items };
+    ghost ground_set = { λ t. first t.list.items };
 
     ghost state = { λ t. Builds t.list };
 

@@ -10,7 +10,7 @@ pub struct General<S> {
 }
 
 impl<S: Space> Space for General<S> {
-    ghost ground = { λ t. S.Space.ground t.space };
+    ghost ground_set = { λ t. S.Space.ground_set t.space };
 
     ghost state = { λ t. S.Space.state t.space };
 

@@ -24,7 +24,7 @@ pub enum Answer {
 
 impl Command {
     pub fn ask<S: Space>(self, space: &S) -> Answer
-        ensures { Answers (S.Space.ground space.now) (S.Space.state space.now) self result }
+        ensures { Answers (S.Space.ground_set space.now) (S.Space.state space.now) self result }
     {
         match self {
             Command::Items => Answer::Items(space.items()),

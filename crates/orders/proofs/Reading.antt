@@ -1,7 +1,7 @@
 -- The rows of a record, and the loop that reads them one by one.
 -- Assumes nothing.
 use Rattle.std.proofs.Common.{◌≡◌, ℕ, suc, ◌+◌, ◌-◌, ◌*◌, ◌<◌, ◌≤◌, min, true, List, [], ◌∷◌, ◌++◌, map, length, take, drop, set, sym, refl, ap, ◌∙◌, subst, subst₂, mul-le-mul_right, suc-mul, arith, below_more}
-use Rattle.std.specs.List.{range_with_len, AllByRecursion as All}
+use Rattle.std.specs.List.{range_with_len, AllByRecursion}
 use Rattle.std.proofs.lemmas.List.{length-take, length-drop, length-set, take_more_set, map_push}
 use Rattle.std.proofs.ByRecursion.{All-from_get_or}
 use Rattle.std.proofs.lemmas.List.FromFn.{map-range_with_len_more, length-map-range_with_len, get_or-map-range_with_len}
@@ -114,7 +114,7 @@ reading b n m t en em =
       tested = λ r xs so_far ge le.
           (tells_orders n m (rows_of n m xs)).1 (
             ap length (read_all r xs so_far ge le) ∙ length-map-range_with_len (row b) 0 (rows b) ∙ sym em,
-            subst (All (Order n)) (sym (read_all r xs so_far ge le))
+            subst (AllByRecursion (Order n)) (sym (read_all r xs so_far ge le))
                 (All-from_get_or (Order n) _ [] (λ s h.
                 let k : s < rows b = subst (λ (z : ℕ). s < z) (length-map-range_with_len (row b) 0 (rows b)) h in
                 subst₂ Order (sym en) (sym (get_or-map-range_with_len (row b) 0 (rows b) s s [] k (omega arith))) (right_all r xs so_far ge s k))),

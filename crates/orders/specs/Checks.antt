@@ -2,7 +2,7 @@
 -- Assumes nothing.
 use Rattle.std.specs.Prelude.{◌≡◌, ℕ, zero, suc, ◌<◌, ◌&&◌, List, [], ◌∷◌, length, Decides, ◌==◌, nat_eq, nat_lt, refl}
 use Rattle.std.proofs.Common.{sym, subst, suc-le-suc, le_of_suc-le-suc, not-suc-le-zero, zero-lt-suc, arith}
-use Rattle.std.specs.List.{ContainsAt as Has, AllByRecursion as All}
+use Rattle.std.specs.List.{ContainsAt as Has, AllByRecursion}
 use Rattle.std.proofs.ByRecursion.{All-get_or, All-from_get_or, All-weaker, has_get_or, Decides-by_and}
 use Rattle.std.proofs.lemmas.Bool.Decides.{Decides-eqb, Decides-ltb, Decides-like, Decides-not, Decides-and, Decides-by_or}
 use Rattle.item_sets.specs.Sets.{first}
@@ -43,19 +43,19 @@ tells_order n row =
     Decides-like _ (λ h. (h.0, h.1.0, h.1.1)) (λ o. (o.0, (o.1, o.2)))
     (Decides-and _ _ (Decides-eqb (length row) n) (Decides-and _ _ (tells_in_range n row) (tells_apart row)))
 
-pub tells_orders : (n m : ℕ) (rows : List (List ℕ)) → Decides (are_orders n m rows) ((length rows ≡ m) × All (Order n) rows)
+pub tells_orders : (n m : ℕ) (rows : List (List ℕ)) → Decides (are_orders n m rows) ((length rows ≡ m) × AllByRecursion (Order n) rows)
 tells_orders n m rows =
     Decides-and _ _ (Decides-eqb (length rows) m)
     (Decides-by_and (λ row. (length row == n) && (all_below n row && all_apart row)) (Order n) (all_orders n) (tells_order n) refl (λ _ _. refl) rows)
 
 -- ---- the rows of a table
 
-right_rows : (t : OrderTable) → (length (orders t) ≡ t.len) × All (Order t.items) (orders t)
+right_rows : (t : OrderTable) → (length (orders t) ≡ t.len) × AllByRecursion (Order t.items) (orders t)
 right_rows t = (tells_orders t.items t.len (orders t)).0 t.right
 
 -- there is one, and each has all the items
 pub some_row : (t : OrderTable) → 0 < length (orders t)
 some_row t = omega (arith, (right_rows t).0, t.row_range)
 
-pub rows_have_all : (t : OrderTable) → All (λ xs. set_of xs ≡ first t.items) (orders t)
+pub rows_have_all : (t : OrderTable) → AllByRecursion (λ xs. set_of xs ≡ first t.items) (orders t)
 rows_have_all t = All-weaker (Order t.items) (λ xs. set_of xs ≡ first t.items) (order_has_all t.items) (orders t) (right_rows t).1

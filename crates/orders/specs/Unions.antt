@@ -3,7 +3,7 @@
 use Rattle.std.specs.Prelude.{◌≡◌, ℕ, zero, suc, ◌<◌, ◌≤◌, max, List, [], ◌∷◌, ◌++◌, length, take, ◌≢◌, slice_index_or, refl}
 use Rattle.std.proofs.Common.{sym, ap, ap₂, subst, ◌∙◌, append-nil, append_assoc, zero-le, le_refl, not-suc-le-zero, arith}
 use Rattle.std.proofs.Math.Decide.{dec_le}
-use Rattle.std.specs.List.{AllByRecursion as All}
+use Rattle.std.specs.List.{AllByRecursion}
 use Rattle.std.proofs.lemmas.List.{take_all}
 use Rattle.item_sets.specs.Sets.{◌∈◌, ◌⊆◌, ◌∪◌, ◌⊕◌, ◌⊖◌, first}
 use Rattle.item_sets.proofs.Members.{∈_dec, ⊆_refl, ⊆_trans, empty_⊆, ∪-⊆, ∪_mono, ⊆-∪_left, ⊆-∪_right, ∈-first, ∉_empty, with_has, with_present, without-with}
@@ -22,7 +22,7 @@ union_empty [] = refl
 union_empty (row ∷ rows) = (0, zero-le, 0, union_empty rows, sym (∪_empty_left 0))
 
 -- the whole of the first row is enough
-union_whole : (n : ℕ) (rows : List (List ℕ)) → 0 < length rows → All (λ row. set_of row ≡ first n) rows → UnionOfBeginnings rows (first n)
+union_whole : (n : ℕ) (rows : List (List ℕ)) → 0 < length rows → AllByRecursion (λ row. set_of row ≡ first n) rows → UnionOfBeginnings rows (first n)
 union_whole n [] h a = absurd (not-suc-le-zero h)
 union_whole n (row ∷ rows) h a = (
   length row,
@@ -32,7 +32,7 @@ union_whole n (row ∷ rows) h a = (
   sym a.0 ∙ ap set_of (sym (take_all (length row) row (le_refl (length row)))) ∙ sym (∪_empty_right (set_of (take (length row) row))),
 )
 
-union_inside : (n : ℕ) (rows : List (List ℕ)) → All (λ row. set_of row ≡ first n) rows → (K : ℕ) → UnionOfBeginnings rows K → K ⊆ first n
+union_inside : (n : ℕ) (rows : List (List ℕ)) → AllByRecursion (λ row. set_of row ≡ first n) rows → (K : ℕ) → UnionOfBeginnings rows K → K ⊆ first n
 union_inside n [] a K e = subst (λ (X : ℕ). X ⊆ first n) (sym e) (empty_⊆ (first n))
 union_inside n (row ∷ rows) a K u =
     let k = u.0 in
@@ -154,7 +154,7 @@ largest_union rows S = largest_rest S [] rows 0 (largest_none S)
 
 -- ---- all the laws together
 
-pub orders_laws : (n : ℕ) (rows : List (List ℕ)) → 1 ≤ n → n ≤ 30 → 0 < length rows → All (λ row. set_of row ≡ first n) rows → LearningSpace (first n) (UnionOfBeginnings rows)
+pub orders_laws : (n : ℕ) (rows : List (List ℕ)) → 1 ≤ n → n ≤ 30 → 0 < length rows → AllByRecursion (λ row. set_of row ≡ first n) rows → LearningSpace (first n) (UnionOfBeginnings rows)
 unfolding Shrinks
 orders_laws n rows low high some all =
     record {

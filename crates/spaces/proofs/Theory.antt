@@ -3,7 +3,7 @@
 use Rattle.std.proofs.Common.{◌≡◌, ℕ, zero, suc, ◌-◌, ◌<◌, ◌≤◌, Bool, ◌↔◌, List, [], ◌∷◌, Decides, sym, subst, le_refl, not-suc-le-zero, arith}
 use mathlib.Core.Logic.Dec
 use native.Mathlib.Decide.{ℕ_discrete}
-use Rattle.std.specs.List.{AllByRecursion as All}
+use Rattle.std.specs.List.{AllByRecursion}
 use Rattle.item_sets.specs.Sets.{◌∈◌, ◌∉◌, ◌⊆◌, ◌∪◌, ◌⊕◌, ◌⊖◌, Members}
 use Rattle.item_sets.proofs.Members.{⊆_dec, ⊆_antisym, same_members, ⊆_refl, ⊆_trans, empty_⊆, ∈-without, ∪-⊆, ⊆-∪_left, ⊆-∪_right, with_has, ⊆-with, with-⊆, with-without, without_lt, part_lt, ⊆_le}
 use Rattle.spaces.specs.Laws.{LearningSpace}
@@ -80,7 +80,7 @@ module _ (G : ℕ) (state : ℕ → Type 0) (laws : LearningSpace G state) where
   chain_up K M = chain_by_fuel (suc (M - K)) K M (le_refl (suc (M - K)))
 
   -- the union of a list of states is a state
-  pub union_state : (Ks : List ℕ) → All state Ks → state (union_of Ks)
+  pub union_state : (Ks : List ℕ) → AllByRecursion state Ks → state (union_of Ks)
   union_state [] a = laws.empty
   union_state (K ∷ Ks) a = laws.joins K (union_of Ks) a.0 (union_state Ks a.1)
 

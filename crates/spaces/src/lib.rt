@@ -14,12 +14,12 @@ use refusals::Refusal;
 // A kind of space tells its items, and of every set number whether it is a state. The other methods follow from these two;
 // a kind may have faster bodies for them.
 pub trait Space {
-    ghost ground: { Self → ℕ };
+    ghost ground_set: { Self → ℕ };
 
     ghost state: { Self → ℕ → Type 0 };
 
     fn items(&self) -> ItemSet
-        ensures { result.number ≡ ground self.now };
+        ensures { result.number ≡ ground_set self.now };
 
     fn is_state(&self, set: ItemSet) -> bool
         ensures { Decides result (state self.now set.number) };
@@ -62,7 +62,7 @@ pub trait Space {
 
     // The items outside a state that can be added to it.
     fn outer_fringe(&self, set: ItemSet) -> Result<ItemSet, Refusal>
-        ensures { Fringe (state self.now) (Outer (ground self.now) (state self.now) set.number) set.number result }
+        ensures { Fringe (state self.now) (Outer (ground_set self.now) (state self.now) set.number) set.number result }
     {
         if !self.is_state(set) {
             return Err(no_state(set));
@@ -78,7 +78,7 @@ pub trait Space {
 
     // Whether two states are the same, by their fringes alone.
     fn same_by_fringes(&self, a: ItemSet, b: ItemSet) -> Result<bool, Refusal>
-        ensures { Compared (ground self.now) (state self.now) a.number b.number result }
+        ensures { Compared (ground_set self.now) (state self.now) a.number b.number result }
     {
         let inner_a = self.inner_fringe(a)?;
         let outer_a = self.outer_fringe(a)?;
@@ -87,7 +87,7 @@ pub trait Space {
         Ok(inner_a == inner_b && outer_a == outer_b)
     }
 
-    ghost laws: { (s : Self) → LearningSpace (ground s) (state s) };
+    ghost laws: { (s : Self) → LearningSpace (ground_set s) (state s) };
 }
 
 fn no_state(set: ItemSet) -> Refusal

@@ -1,7 +1,7 @@
 -- Going on with a listing until nothing is left.
 -- Assumes nothing.
 use Rattle.std.proofs.Common.{◌≡◌, ℕ, suc, ◌+◌, ◌-◌, ◌^◌, ◌<◌, min, List, [], ◌∷◌, ◌++◌, length, Some, None, Option, sym, refl, subst, ⊎_elim, suc-le-suc, zero-lt-suc, arith}
-use Rattle.std.specs.List.{AllByRecursion as All}
+use Rattle.std.specs.List.{AllByRecursion}
 use Rattle.std.proofs.lemmas.List.{length_push}
 use Rattle.trees.specs.Listings.{Among, Due, Listing, Left, FullListing, Counted}
 use Rattle.trees.specs.Trees.{Node, Laws}
@@ -9,7 +9,7 @@ use Rattle.trees.specs.Walking.{FirstOf}
 use Rattle.trees.proofs.Filling.{ListingSoFar, listing_begins, listing_more}
 use Rattle.trees.proofs.Passing.{remaining, remaining_falls}
 
-pub all_among : {N : Type 0} (P : N → Type 0) (x : N) (ns : List N) → All P ns → Among x ns → P x
+pub all_among : {N : Type 0} (P : N → Type 0) (x : N) (ns : List N) → AllByRecursion P ns → Among x ns → P x
 all_among P x [] a h = absurd h
 all_among P x (n ∷ ns) a h = ⊎_elim (λ e. subst P (sym e) a.0) (all_among P x ns a.1) h
 

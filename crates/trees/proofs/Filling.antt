@@ -2,7 +2,7 @@
 -- Assumes nothing.
 use Rattle.std.proofs.Common.{◌≡◌, ℕ, ◌+◌, ◌<◌, ◌≤◌, Bool, List, [], ◌∷◌, ◌++◌, length, drop, set, is_some, Some, None, Decides, Option, sym, refl, ap, ◌∙◌, subst, inl, inr, ⊎_elim, append_assoc, zero-le, arith, length-append, length-drop}
 use mathlib.Core.Bool.{false≢true}
-use Rattle.std.specs.List.{AllByRecursion as All}
+use Rattle.std.specs.List.{AllByRecursion}
 use Rattle.std.proofs.ByRecursion.{All-push, All-weaker}
 use Rattle.std.proofs.lemmas.List.{length_push, drop_more, set_at}
 use Rattle.trees.specs.Listings.{Among, Before, Rising, Due, Listing, Left, Written}
@@ -20,18 +20,18 @@ pub among_right : {N : Type 0} (x : N) (ns ms : List N) → Among x ms → Among
 among_right x [] ms h = h
 among_right x (n ∷ ns) ms h = inr (among_right x ns ms h)
 
-pub rising_push : {N : Type 0} (stands : N → List ℕ → Type 0) (ns : List N) (x : N) → Rising stands ns → All (λ n. Before stands n x) ns → Rising stands (ns ++ x ∷ [])
+pub rising_push : {N : Type 0} (stands : N → List ℕ → Type 0) (ns : List N) (x : N) → Rising stands ns → AllByRecursion (λ n. Before stands n x) ns → Rising stands (ns ++ x ∷ [])
 rising_push stands [] x r a = (tt, tt)
 rising_push stands (n ∷ ns) x r a = (All-push (Before stands n) ns x r.0 a.0, rising_push stands ns x r.1 a.1)
 
-all_last : {N : Type 0} (P : N → Type 0) (ns : List N) (x : N) → All P (ns ++ x ∷ []) → P x
+all_last : {N : Type 0} (P : N → Type 0) (ns : List N) (x : N) → AllByRecursion P (ns ++ x ∷ []) → P x
 all_last P [] x a = a.0
 all_last P (n ∷ ns) x a = all_last P ns x a.1
 
 module _ {N : Type 0} (stands : N → List ℕ → Type 0) (wanted : N → Type 0) where
   -- m is due, and comes after all of ns
   abbrev pub Later : Option N → List N → N → Type 0
-  Later from ns m = Due stands wanted from m × All (λ n. Before stands n m) ns
+  Later from ns m = Due stands wanted from m × AllByRecursion (λ n. Before stands n m) ns
 
   -- ns are listed, and `next` is the first that is due after them
   unfoldable pub ListingSoFar : Option N → List N → Option N → Type 0

@@ -2,7 +2,7 @@
 -- Assumes nothing.
 use Rattle.std.proofs.Common.{◌≡◌, ℕ, ◌+◌, ◌<◌, ◌≤◌, ◌⊎◌, List, [], ◌∷◌, ◌++◌, length, Some, None, sym, ap, ◌∙◌, subst, inl, inr, ⊎_elim, append_assoc, append-nil, zero-le, arith, length-append}
 use native.Mathlib.Decide.{ℕ_discrete}
-use Rattle.std.specs.List.{AllByRecursion as All}
+use Rattle.std.specs.List.{AllByRecursion}
 use Rattle.trees.specs.Listings.{Before}
 use Rattle.trees.specs.Trees.{Node, Further, Parent, Laws}
 use Rattle.trees.specs.Walking.{FirstChild, FirstOf}
@@ -132,7 +132,7 @@ unfolding NoneBelow
 none_below stands n least j k low high f = omega arith
 
 module _ {N : Type 0} (stands : N → List ℕ → Type 0) (wanted : N → Type 0) (laws : Laws stands wanted) where
-  last_letter : (w : List ℕ) (i : ℕ) → All (λ j. j < 30) (w ++ (i ∷ [])) → i < 30
+  last_letter : (w : List ℕ) (i : ℕ) → AllByRecursion (λ j. j < 30) (w ++ (i ∷ [])) → i < 30
   last_letter [] i a = a.0
   last_letter (j ∷ w) i a = last_letter w i a.1
 

@@ -4,7 +4,7 @@
 use Rattle.std.proofs.Common.{◌≡◌, ℕ, zero, suc, ◌+◌, ◌*◌, ◌^◌, ◌<◌, ◌≤◌, ◌⊎◌, List, [], ◌∷◌, ◌++◌, length, sym, refl, ap, ◌∙◌, ap₂, inl, inr, ⊎_elim, suc-le-suc, zero-le, le_of_suc-le-suc, not-suc-le-zero, mul-le-mul_right, suc-mul, pow-suc, arith, lit≤}
 use native.Mathlib.Decide.{ℕ_discrete, dec_lt}
 use native.Mathlib.Nat.{one-le-pow}
-use Rattle.std.specs.List.{AllByRecursion as All}
+use Rattle.std.specs.List.{AllByRecursion}
 use Rattle.trees.specs.Words.{◌≺◌}
 
 pub ≺_irrefl : (w : List ℕ) → w ≺ w → ⊥
@@ -79,7 +79,7 @@ rank (suc d) (i ∷ w) = suc i * 31 ^ d + rank d w
 power : (d : ℕ) → 0 < 31 ^ d
 power d = one-le-pow d 31 (lit≤ tt)
 
-pub rank_bound : (d : ℕ) (w : List ℕ) → length w ≤ d → All (λ i. i < 30) w → rank d w < 31 ^ d
+pub rank_bound : (d : ℕ) (w : List ℕ) → length w ≤ d → AllByRecursion (λ i. i < 30) w → rank d w < 31 ^ d
 unfolding rank
 rank_bound zero w h a = power 0
 rank_bound (suc d) [] h a = power (suc d)
@@ -88,7 +88,7 @@ rank_bound (suc d) (i ∷ w) h a =
     let rest : rank d w < 31 ^ d = rank_bound d w (le_of_suc-le-suc h) a.1 in
     omega (arith, pow-suc 31 d)
 
-pub rank_rises : (d : ℕ) (w v : List ℕ) → length w ≤ d → length v ≤ d → All (λ i. i < 30) w → All (λ i. i < 30) v → w ≺ v → rank d w < rank d v
+pub rank_rises : (d : ℕ) (w v : List ℕ) → length w ≤ d → length v ≤ d → AllByRecursion (λ i. i < 30) w → AllByRecursion (λ i. i < 30) v → w ≺ v → rank d w < rank d v
 unfolding rank ◌≺◌
 rank_rises zero [] [] hw hv a b l = absurd l
 rank_rises zero [] (j ∷ v) hw hv a b l = absurd (not-suc-le-zero hv)

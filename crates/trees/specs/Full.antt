@@ -1,7 +1,7 @@
 -- Full listings: tray after tray, handed to a sink.
 -- Assumes nothing.
 use Rattle.std.specs.Prelude.{◌≡◌, ℕ, ◌≤◌, List, [], ◌∷◌, ◌++◌, length, Ok, Err, Option, Result, MatchOption}
-use Rattle.std.specs.List.{AllByRecursion as All}
+use Rattle.std.specs.List.{AllByRecursion}
 use Rattle.refusals.specs.declared.Layer.TheVariants.{Listing as listing}
 use Rattle.refusals.specs.Report.{report, says}
 use Rattle.trees.specs.declared.stopped.Stopped.{Stopped}
@@ -10,7 +10,7 @@ use Rattle.trees.specs.Listings.{RightSize, Listing, Left, FullListing}
 
 -- the sizes of the trays are right: there is one, and each is allowed
 abbrev pub RightSizes : List ℕ → Type 0
-RightSizes sizes = (1 ≤ length sizes) × All RightSize sizes
+RightSizes sizes = (1 ≤ length sizes) × AllByRecursion RightSize sizes
 
 -- the sink goes from s to t by taking ns, some of them at a time; `takes` says what taking once does
 pub data Handed {S N : Type 0} (takes : S → List N → S → Type 0) : S → List N → S → Type 0 where

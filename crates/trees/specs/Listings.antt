@@ -1,7 +1,7 @@
 -- Listings of the wanted nodes of a tree, and what they leave in a tray.
 -- Assumes nothing.
 use Rattle.std.specs.Prelude.{◌≡◌, ℕ, ◌-◌, ◌^◌, ◌≤◌, min, ◌⊎◌, ◌↔◌, List, [], ◌∷◌, ◌++◌, length, drop, IfSome, Some, Ok, Err, Decides, Option, Result}
-use Rattle.std.specs.List.{AllByRecursion as All}
+use Rattle.std.specs.List.{AllByRecursion}
 use Rattle.refusals.specs.declared.Layer.TheVariants.{Listing as listing}
 use Rattle.refusals.specs.declared.Refusal.{Refusal}
 use Rattle.refusals.specs.Report.{report, says}
@@ -34,7 +34,7 @@ module _ {N : Type 0} (stands : N → List ℕ → Type 0) where
   -- each comes before all that follow it
   abbrev pub Rising : List N → Type 0
   Rising [] = Unit {0}
-  Rising (n ∷ ns) = All (Before n) ns × Rising ns
+  Rising (n ∷ ns) = AllByRecursion (Before n) ns × Rising ns
 
 -- and some of the nodes are wanted
 module _ {N : Type 0} (stands : N → List ℕ → Type 0) (wanted : N → Type 0) where
@@ -45,12 +45,12 @@ module _ {N : Type 0} (stands : N → List ℕ → Type 0) (wanted : N → Type 
   -- ns are the first nodes that are due, in listing order, and none is left out
   pub record Listing (from : Option N) (ns : List N) : Type 0 where
     pub rising : Rising stands ns
-    pub due : All (Due from) ns
-    pub none_left_out : (m : N) → Due from m → Among m ns ⊎ All (λ n. Before stands n m) ns
+    pub due : AllByRecursion (Due from) ns
+    pub none_left_out : (m : N) → Due from m → Among m ns ⊎ AllByRecursion (λ n. Before stands n m) ns
 
   -- a node that is due comes after all of ns
   abbrev pub Left : Option N → List N → Type 0
-  Left from ns = (m : N) × Due from m × All (λ n. Before stands n m) ns
+  Left from ns = (m : N) × Due from m × AllByRecursion (λ n. Before stands n m) ns
 
   -- what a listing has written: the first nodes that are due, as many as there are places or as are due; all other places are as they were
   pub record Written (from : Option N) (before : List N) (told : Listed) (after : List N) : Type 0 where

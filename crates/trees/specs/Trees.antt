@@ -1,7 +1,7 @@
 -- What a tree is: its nodes stand for words, and with a word every beginning of it has a node.
 -- Assumes nothing.
 use Rattle.std.specs.Prelude.{◌≡◌, ℕ, ◌<◌, ◌≤◌, List, [], ◌∷◌, ◌++◌, length, Option, MatchOption}
-use Rattle.std.specs.List.{AllByRecursion as All}
+use Rattle.std.specs.List.{AllByRecursion}
 
 module _ {N : Type 0} (stands : N → List ℕ → Type 0) where
   -- the value n is a node: it stands for some word
@@ -26,7 +26,7 @@ pub record Laws {N : Type 0} (stands : N → List ℕ → Type 0) (wanted : N �
   pub one_word : (n : N) (w v : List ℕ) → stands n w → stands n v → w ≡ v
   pub one_node : (n m : N) (w : List ℕ) → stands n w → stands m w → n ≡ m
   pub beginnings : (n : N) (w v : List ℕ) → stands n (w ++ v) → (p : N) × stands p w
-  pub letters : (n : N) (w : List ℕ) → stands n w → All (λ i. i < 30) w
+  pub letters : (n : N) (w : List ℕ) → stands n w → AllByRecursion (λ i. i < 30) w
   pub short : (n : N) (w : List ℕ) → stands n w → length w ≤ 30
   pub only_nodes : (n : N) → wanted n → Node stands n
   -- of every value it is settled whether it is a node

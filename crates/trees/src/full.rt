@@ -1,6 +1,6 @@
 // Full listings: tray after tray, until nothing is left.
 ghost use Rattle.std.specs.Prelude.{◌≡◌, ◌≤◌, List, length, IfSome, IfOk};
-ghost use Rattle.std.specs.List.{AllByRecursion as All};
+ghost use Rattle.std.specs.List.{AllByRecursion};
 ghost use Rattle.trees.specs.Full.{FullyListed, OneTray, RightSizes};
 ghost use Rattle.trees.specs.Listings.{RightSize};
 

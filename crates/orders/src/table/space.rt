@@ -27,7 +27,7 @@ impl OrderTable {
 }
 
 impl Space for OrderTable {
-    ghost ground = { λ t. first t.items };
+    ghost ground_set = { λ t. first t.items };
 
     ghost state = { λ t K. UnionOfBeginnings (orders t) K };
 

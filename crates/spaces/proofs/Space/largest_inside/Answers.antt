@@ -13,7 +13,7 @@ pub returns : goal.returns
 returns g c =
     let W = c.intersection-within.result.number in
     let X = c.args.set.number in
-    let both : Members W (λ i. (i ∈ g.Self.Space.ground c.args.self.now) × (i ∈ X)) =
+    let both : Members W (λ i. (i ∈ g.Self.Space.ground_set c.args.self.now) × (i ∈ X)) =
     subst (λ (G : ℕ). Members W (λ i. (i ∈ G) × (i ∈ X))) c.items.ensures c.intersection-within.ensures in
     c.loop-item.invariant.1.ends _ X _ _ _ _ (g.met.Self.Space.laws c.args.self.now) c.loop-item.invariant.0 c.in_default.ensures.steps
     c.items-in-loop-item.ensures both

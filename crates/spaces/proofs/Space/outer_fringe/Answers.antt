@@ -15,7 +15,7 @@ loop-item-init g c =
 pub returns : goal.returns
 returns g c =
     let K = c.args.set.number in
-    let G = g.Self.Space.ground c.args.self.now in
+    let G = g.Self.Space.ground_set c.args.self.now in
     let from : c.into_iter-item-iterator.result.rest.number ≡ c.difference.result.number =
     ap (λ (s : Items). s.rest.number) c.into_iter-item-iterator.ensures.into_iter_gives ∙ c.items-item-items.ensures in
     let outside : Members c.into_iter-item-iterator.result.rest.number (λ i. (i ∈ G) × (i ∉ K)) =

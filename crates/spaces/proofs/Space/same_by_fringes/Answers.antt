@@ -6,7 +6,7 @@ use Rattle.spaces.proofs.Space.same_by_fringes.Goals as goal
 
 pub returns-then-eq : goal.returns-then-eq
 returns-then-eq g c =
-    let G = g.Self.Space.ground c.args.self.now in
+    let G = g.Self.Space.ground_set c.args.self.now in
     let state = g.Self.Space.state c.args.self.now in
     let a = c.in_ok-outer_a.ensures in
     let b = c.in_ok-outer_b.ensures in
@@ -21,7 +21,7 @@ returns-else-eq g c =
     let state = g.Self.Space.state c.args.self.now in
     let a = c.in_ok-inner_a.ensures in
     let b = c.in_ok-inner_b.ensures in
-    let G = g.Self.Space.ground c.args.self.now in
+    let G = g.Self.Space.ground_set c.args.self.now in
     let told = Decides-at _ _ c.eq.ensures (Decides-eqb _ _) in
     let differ = not_from_Decides _ told c.if-eq.false in
     let same : Decides _ _ = (
