@@ -3,9 +3,9 @@
 use Rattle.std.specs.Prelude.{ℕ, zero, suc, ◌-◌, ◌<◌, ◌≤◌, ◌⊎◌, ◌≢◌, refl}
 use Rattle.std.proofs.Common.{sym, subst, ◌∙◌, inl, inr, le_refl, not-suc-le-zero, arith}
 use mathlib.Core.HLevel.{⊥_prop}
-use mathlib.Core.Logic.Dec
 use Rattle.std.proofs.Math.Logic.{∥∥₁_elim}
 use Rattle.std.proofs.Math.Decide.{ℕ_discrete}
+use mathlib.Core.Logic.Dec
 use Rattle.item_sets.specs.Sets.{◌∈◌, ◌∉◌, ◌⊆◌, ◌∪◌, ◌⊕◌, ◌⊖◌}
 use Rattle.item_sets.proofs.Members.{∈_dec, ⊆_antisym, ⊆_trans, ⊆-∪_right, empty_⊆, with_has, ⊆-with, with-⊆, with_present, without-with, part_lt, ⊆_le}
 use Rattle.item_sets.proofs.Unions.{∪-with, ∪_empty_right}
@@ -60,11 +60,48 @@ module _ (G : ℕ) (met : ℕ → ℕ → Type 0) where
         let before = closed_holds X B closed J b (⊆_trans J (J ⊕ i) X (⊆-with J i) f) in
         with-⊆ J i B before (closed i g (f i (with_has J i)) (stays i J B before m))
 
-    -- growing inside X until nothing of X can be added, where it is decided what can be
+    -- growing until nothing can be added, where it is decided what can be
     module _ (N : ℕ) (small : (i : ℕ) → i ∈ G → i < N) (met_dec : (i X : ℕ) → Dec (met i X)) where
-      grow : (X fuel B : ℕ) → Built G met B → B ⊆ X → X - B < fuel → (L : ℕ) × Largest (Built G met) X L
-      grow X zero B b f h = absurd (not-suc-le-zero h)
-      grow X (suc fuel) B b f h =
+      can_add : (B : ℕ) (i : ℕ) → Dec ((i ∈ G) × (i ∉ B) × met i B)
+      can_add B i =
+          elim (∈_dec i G) [
+            | no n ↦ no (λ p. n p.0)
+            | yes g ↦ elim (∈_dec i B) [
+              | yes b ↦ no (λ p. p.1 b)
+              | no n ↦ elim (met_dec i B) [ yes m ↦ yes (g, n, m) | no z ↦ no (λ p. z p.2) ]
+            ]
+          ]
+
+      grow : (fuel B : ℕ) → Built G met B → G - B < fuel → (C : ℕ) × Built G met C × ((i : ℕ) → i ∈ G → met i C → i ∈ C)
+      grow zero B b h = absurd (not-suc-le-zero h)
+      grow (suc fuel) B b h =
+          elim (some_below (λ i. (i ∈ G) × (i ∉ B) × met i B) (can_add B) N) [
+            | inl found ↦
+                let i = found.0 in
+                let more : Built G met (B ⊕ i) = add b i found.2.0 found.2.1 found.2.2 in
+                let up : B < B ⊕ i = part_lt B (B ⊕ i) i (⊆-with B i) (with_has B i) found.2.1 in
+                let most : B ⊕ i ≤ G = ⊆_le (B ⊕ i) G (built_inside (B ⊕ i) more) in
+                grow fuel (B ⊕ i) more (omega arith)
+            | inr none_left ↦
+                (B, b, λ i g m. elim (∈_dec i B) [ yes there ↦ there | no n ↦ absurd (none_left i (small i g) (g, n, m)) ])
+          ]
+
+      -- where each item of G lies in some buildable set, G can be built
+      pub whole_from_items : ((i : ℕ) → i ∈ G → ∥ ((K : ℕ) × (i ∈ K) × Built G met K) ∥₁) → Built G met G
+      whole_from_items reach =
+          let C = grow (suc G) 0 none (omega arith) in
+          let all : G ⊆ C.0 =
+          λ i g. elim (∈_dec i C.0) [
+            | yes there ↦ there
+            | no n ↦ absurd (∥∥₁_elim (reach i g) ⊥_prop
+                (λ r. n (closed_holds G C.0 (λ j g' x. C.2 j g') r.0 r.2 (built_inside r.0 r.2) i r.1)))
+          ] in
+          subst (Built G met) (⊆_antisym C.0 G (built_inside C.0 C.1) all) C.1
+
+      -- growing inside X until nothing of X can be added: the largest set inside X that can be built
+      grow_inside : (X fuel B : ℕ) → Built G met B → B ⊆ X → X - B < fuel → (L : ℕ) × Largest (Built G met) X L
+      grow_inside X zero B b f h = absurd (not-suc-le-zero h)
+      grow_inside X (suc fuel) B b f h =
           elim (some_below (λ i. ((i ∈ G) × (i ∈ X)) × ((i ∉ B) × met i B))
           (λ i. Dec.and (Dec.and (∈_dec i G) (∈_dec i X)) (Dec.and (Dec.not (∈_dec i B)) (met_dec i B))) N) [
             | inl found ↦
@@ -73,7 +110,7 @@ module _ (G : ℕ) (met : ℕ → ℕ → Type 0) where
                 let still : B ⊕ i ⊆ X = with-⊆ B i X f found.2.0.1 in
                 let up : B < B ⊕ i = part_lt B (B ⊕ i) i (⊆-with B i) (with_has B i) new in
                 let most : B ⊕ i ≤ X = ⊆_le (B ⊕ i) X still in
-                grow X fuel (B ⊕ i) (add b i found.2.0.0 new found.2.1.1) still (omega arith)
+                grow_inside X fuel (B ⊕ i) (add b i found.2.0.0 new found.2.1.1) still (omega arith)
             | inr none_left ↦
                 let closed : (i : ℕ) → i ∈ G → i ∈ X → met i B → i ∈ B =
                 λ i g x m. elim (∈_dec i B) [ yes there ↦ there | no n ↦ absurd (none_left i (small i g) ((g, x), (n, m))) ] in
@@ -81,18 +118,7 @@ module _ (G : ℕ) (met : ℕ → ℕ → Type 0) where
           ]
 
       pub largest_built : (X : ℕ) → (L : ℕ) × Largest (Built G met) X L
-      largest_built X = grow X (suc X) 0 none (empty_⊆ X) (omega arith)
-
-      -- where each item of G lies in some buildable set, G can be built
-      pub whole_from_items : ((i : ℕ) → i ∈ G → ∥ ((K : ℕ) × (i ∈ K) × Built G met K) ∥₁) → Built G met G
-      whole_from_items reach =
-          let C = largest_built G in
-          let all : G ⊆ C.0 =
-          λ i g. elim (∈_dec i C.0) [
-            | yes there ↦ there
-            | no n ↦ absurd (∥∥₁_elim (reach i g) ⊥_prop (λ r. n (C.1.holds r.0 r.2 (built_inside r.0 r.2) i r.1)))
-          ] in
-          subst (Built G met) (⊆_antisym C.0 G C.1.inside all) C.1.is_state
+      largest_built X = grow_inside X (suc X) 0 none (empty_⊆ X) (omega arith)
 
   pub built_space : (G ≢ 0) → ((i : ℕ) → i ∈ G → i < 30) → Buildable G met → LearningSpace G (Built G met)
   built_space ne thirty r = record {

@@ -2,7 +2,6 @@
 -- Assumes nothing.
 use Rattle.std.specs.Prelude.{◌≡◌, ℕ, ◌<◌, ◌≤◌, ◌↔◌}
 use Rattle.std.proofs.Common.{sym, subst, inl, inr, arith}
-use mathlib.Core.Logic.Dec
 use Rattle.std.proofs.Math.Decide.{ℕ_discrete}
 use Rattle.item_sets.specs.Sets.{◌∈◌, ◌∉◌, ◌⊆◌, first, Members, Least}
 use Rattle.item_sets.proofs.Members.{∈_dec, ∈-first, ∉_empty, ⊆_dec}
@@ -20,25 +19,31 @@ use Rattle.clauses.specs.Passes.{met_stays}
 -- whether an item can be added is decided: there are finitely many clauses
 met_dec : (len : ℕ) (f : ℕ → Clause) (i X : ℕ) → Dec (Met len f i X)
 met_dec len f i X =
-    elim (some_below (λ k. ((f k).item ≡ i) × ((f k).alternative.number ⊆ X))
-    (λ k. Dec.and (ℕ_discrete (f k).item i) (⊆_dec (f k).alternative.number X)) len) [
+    elim (some_below (λ k. ((f k).item ≡ i) × ((f k).alternative.number ⊆ X)) one len) [
       | inl found ↦ yes (found.0, found.1, found.2.0, found.2.1)
       | inr rest ↦ no (λ m. rest m.0 m.1 (m.2, m.3))
     ]
+  where
+    one : (k : ℕ) → Dec (((f k).item ≡ i) × ((f k).alternative.number ⊆ X))
+    one k =
+        elim (ℕ_discrete (f k).item i) [
+          | no n ↦ no (λ p. n p.0)
+          | yes e ↦ elim (⊆_dec (f k).alternative.number X) [ yes s ↦ yes (e, s) | no n ↦ no (λ p. n p.1) ]
+        ]
 
 pub table_laws : (t : ClauseTable) → LearningSpace (first t.list.items) (Builds t.list)
 table_laws t =
     let l = t.list in
     let n = l.items in
     let stays = met_stays l.len (at l.clauses) in
-    let decided = met_dec l.len (at l.clauses) in
     let below : (i : ℕ) → i ∈ first n → i < 30 = λ i h. omega (arith, (∈-first n i).0 h, l.bounds) in
     built_space (first n) (Met l.len (at l.clauses))
     (λ e. ∉_empty 0 (subst (λ (X : ℕ). 0 ∈ X) e ((∈-first n 0).1 (omega (arith, l.bounds)))))
     below
     (record {
       stays = stays;
-      whole = whole_from_items (first n) (Met l.len (at l.clauses)) stays 30 below decided (λ i h. t.reachable i ((∈-first n i).0 h));
+      whole = whole_from_items (first n) (Met l.len (at l.clauses)) stays 30 below (met_dec l.len (at l.clauses))
+          (λ i h. t.reachable i ((∈-first n i).0 h));
     })
 
 -- the items that can be reached are those of the largest buildable set B, and D holds the others
