@@ -18,6 +18,7 @@ TOLD = {"bit-and": "bit-bit_and", "bit-or": "bit-bit_or", "bit-xor": "bit-bit_xo
 TOKEN = re.compile(r"[^\s(){}\[\],;.:λ`\"]+")
 DECLARED = re.compile(r"^\s*(?:abbrev |unfoldable )?(?:pub )?(?:record |data |module )?([^\s(){}\[\],;:.]+) :(?!=) ")
 BOUND = [re.compile(r"\blet ([^\s:=]+) [:=]"), re.compile(r"\b(?:yes|no|inl|inr) ([^\s()]+) ↦")]
+CASES = re.compile(r"^\s+((?:[^\s(){}\[\],;:.]+ )+): [A-Z]\w*$")
 BINDERS = re.compile(r"λ ([^.]*)\.")
 
 
@@ -31,14 +32,20 @@ def files(ending):
 
 def own_names():
     """Each name with a dash, or one as `inX`, that the repository declares."""
-    own = {"inF", "inH"}
-    for path in files(".antt"):
+    own = set()
+    for path in [*files(".antt"), *files(".rt")]:
         with open(path, encoding="utf-8") as f:
             for line in f:
+                if "use " in line:
+                    own |= {m.group(1) for m in re.finditer(r" as ([^\s,{}]+-[^\s,{}]+)", line)}
+                if path.endswith(".rt"):
+                    continue
+                own |= set(re.findall(r"(?<=[ (])in[A-Z](?=[ ).])", line))
                 if line.lstrip().startswith("--") or line.startswith("use "):
                     continue
                 found = [m.group(1) for m in [DECLARED.match(line)] if m and "goal." not in line]
                 found += [m.group(1) for p in BOUND for m in p.finditer(line)]
+                found += [w for m in [CASES.match(line)] if m for w in m.group(1).split()]
                 found += [w for m in BINDERS.finditer(line) for w in re.findall(r"[^\s()]+", m.group(1))]
                 for name in found:
                     if "-" in name.strip("-") or re.fullmatch(r"in[A-Z]", name):
@@ -46,8 +53,8 @@ def own_names():
     return own
 
 
-def is_name(part):
-    return part in NAMES or not re.search(r"\w", part)
+def is_name(word):
+    return word in NAMES or not re.search(r"\w", word)
 
 
 def spelled(name):
@@ -60,7 +67,7 @@ def spelled(name):
     parts = name.split("-")
     out = parts[0]
     for before, part in zip(parts, parts[1:]):
-        out += ("-" if is_name(before) and is_name(part) else "_") + part
+        out += ("-" if is_name(before.split("_")[-1]) and is_name(part.split("_")[0]) else "_") + part
     return out
 
 
