@@ -9,7 +9,6 @@ mod trial;
 ghost use Rattle.std.specs.Prelude.{◌≡◌, ◌<◌, ◌≤◌, false, Ok, Err, Decides, ◌≢◌};
 
 use answer::{Answer, Layer, Question, Refused};
-use anyhow::anyhow;
 use clauses::ClauseTable;
 use general::General;
 use generator::Generator;
@@ -18,6 +17,7 @@ use orders::OrderTable;
 use refusals::Refusal;
 use spaces::Space;
 use std::alloc::Global;
+use std::process::ExitCode;
 use std::{fmt, io};
 use trial::{Kind, Trial};
 
@@ -30,7 +30,8 @@ const THREE_CLAUSES: &[u8; 23] = b"\0\x04\0\0\0\x01\0\0\0\0\x02\0\0\0\0C\x03\x03
 // Items 1, 2, 0 and items 2, 0, 1.
 const TWO_ORDERS: &[u8; 14] = b"\x01\x02\0\x02\0\x01O\x03\x02\0\x06\0\0\0";
 
-fn main(rt: HostRuntime) -> anyhow::Result<()> {
+// The status tells whether the library and the trial agree.
+fn main(rt: HostRuntime) -> anyhow::Result<ExitCode> {
     let mut examiner = Examiner::new(&rt);
     let clauses = survey_kind::<ClauseTable>(&rt, &mut examiner, THREE_CLAUSES)?;
     let orders = survey_kind::<OrderTable>(&rt, &mut examiner, TWO_ORDERS)?;
@@ -38,9 +39,9 @@ fn main(rt: HostRuntime) -> anyhow::Result<()> {
     report_tables(&rt, clauses, orders)?;
     report_answers(&rt, tally)?;
     if tally.differences > 0 {
-        return Err(anyhow!("the library and the trial differ"));
+        return Ok(ExitCode::FAILURE);
     }
-    Ok(())
+    Ok(ExitCode::SUCCESS)
 }
 
 // Compares a fresh table, the table of a record that is given, and those of the records that are made.

@@ -6,22 +6,22 @@ mod command;
 mod table;
 
 use answer::Answer;
-use anyhow::anyhow;
 use clauses::ClauseTable;
 use command::{Command, Expected};
 use orders::OrderTable;
 use records::Kind;
 use spaces::Space;
 use std::io::{BufRead, BufReader};
+use std::process::ExitCode;
 use std::{env, fs, io};
 use table::Table;
 
-fn main(rt: HostRuntime) -> anyhow::Result<()> {
+fn main(rt: HostRuntime) -> anyhow::Result<ExitCode> {
     let mut args = env::args(&rt)?;
     let _program = args.next();
     let Some(path) = args.next() else {
         eprintln!(rt; "usage: jandifety TABLE [COMMAND...]")?;
-        return Err(anyhow!("no table is named"));
+        return Ok(ExitCode::FAILURE);
     };
     let mut command = String::new(rt.alloc());
     for word in args {
@@ -32,7 +32,7 @@ fn main(rt: HostRuntime) -> anyhow::Result<()> {
         Ok(bytes) => bytes,
         Err(error) => {
             eprintln!(rt; "jandifety: cannot read {path}: {error}")?;
-            return Err(error.into());
+            return Ok(ExitCode::FAILURE);
         }
     };
     // A record that says no kind goes to the clause loader, which refuses it.
@@ -43,12 +43,12 @@ fn main(rt: HostRuntime) -> anyhow::Result<()> {
 }
 
 // Loads the record, and answers the command, or where there is none the lines of standard input.
-fn run<T: Table + Drop>(rt: &HostRuntime, bytes: &[u8], command: &str) -> anyhow::Result<()> {
+fn run<T: Table + Drop>(rt: &HostRuntime, bytes: &[u8], command: &str) -> anyhow::Result<ExitCode> {
     let table = match T::loaded(bytes) {
         Ok(table) => table,
         Err(refusal) => {
             rt.println(refusal)?;
-            return Err(anyhow!("the record is refused"));
+            return Ok(ExitCode::FAILURE);
         }
     };
     let name = T::NAME;
@@ -56,11 +56,12 @@ fn run<T: Table + Drop>(rt: &HostRuntime, bytes: &[u8], command: &str) -> anyhow
     let rows = table.rows();
     println!(rt; "table: {name}, {items} items, {rows} rows")?;
     if command.is_empty() {
-        return Ok(serve(rt, &table)?);
+        serve(rt, &table)?;
+        return Ok(ExitCode::SUCCESS);
     }
     match respond(rt, &table, command.as_bytes())? {
-        true => Ok(()),
-        false => Err(anyhow!("the command is refused")),
+        true => Ok(ExitCode::SUCCESS),
+        false => Ok(ExitCode::FAILURE),
     }
 }
 
