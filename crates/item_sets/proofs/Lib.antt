@@ -1,3 +1,4 @@
 pub mod Bits
+pub mod Filtering
 pub mod Members
 pub mod Unions

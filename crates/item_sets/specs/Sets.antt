@@ -1,15 +1,13 @@
 -- Sets of items as set numbers: the sum of 2 ^ i over the items i of the set.
 -- Assumes nothing.
-use Rattle.std.specs.Prelude.{◌≡◌, ℕ, zero, suc, ◌+◌, ◌-◌, ◌/◌, ◌%◌, ◌^◌, ◌≤◌, ◌↔◌, bit_and, bit_or}
+use Rattle.std.specs.Prelude.{◌≡◌, ℕ, zero, suc, ◌+◌, ◌-◌, ◌^◌, ◌≤◌, ◌↔◌, bit_and, bit_or}
+use Rattle.std.specs.Int.{bit_at}
 
 infix 50 ◌∈◌ ◌∉◌ ◌⊆◌
 infixl 65 ◌∪◌ ◌∖◌ ◌⊕◌ ◌⊖◌
--- bit i of the number X: 1 where item i is in the set, 0 where it is not
-abbrev pub bit : ℕ → ℕ → ℕ
-bit X i = X / 2 ^ i % 2
-
+-- bit i of the number X is 1 where item i is in the set, and 0 where it is not
 unfoldable pub ◌∈◌ : ℕ → ℕ → Type 0
-i ∈ X = bit X i ≡ 1
+i ∈ X = bit_at X i ≡ 1
 
 abbrev pub ◌∉◌ : ℕ → ℕ → Type 0
 i ∉ X = i ∈ X → ⊥
@@ -43,7 +41,7 @@ first n = 2 ^ n - 1
 -- how many of the items below k are in X
 unfoldable pub below : ℕ → ℕ → ℕ
 below X zero = 0
-below X (suc k) = below X k + bit X k
+below X (suc k) = below X k + bit_at X k
 
 -- how many items X has, of those that a number below 2 ^ 32 can hold
 unfoldable pub size : ℕ → ℕ

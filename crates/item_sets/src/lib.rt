@@ -1,10 +1,15 @@
 // Sets of items as set numbers: the sum of 2^i over the items i of the set.
 #![tactic(auto)]
 
-ghost use Rattle.std.specs.Prelude.{◌≡◌, ℕ, ◌<◌, ◌⊎◌, Decides};
+ghost use Rattle.std.specs.Prelude.{◌≡◌, ℕ, ◌<◌, ◌⊎◌, ◌↔◌, IsTrue, Some, true, false, decimal};
 ghost use Rattle.item_sets.specs.Sets.{◌∈◌, ◌∉◌, ◌⊆◌, ◌∪◌, ◌∖◌, ◌⊕◌, ◌⊖◌, first, size, Members};
 ghost use Rattle.item_sets.specs.Iteration.{Steps};
 ghost use Rattle.std.specs.Iterator.{at_most};
+ghost use Rattle.std.specs.Result.{result_map_both};
+
+use std::fmt;
+use std::num::ParseIntError;
+use std::str::FromStr;
 
 // An item is a skill, by its number. Tables have items 0 to 29.
 pub type Item = u8;
@@ -33,7 +38,7 @@ impl ItemSet {
     }
 
     pub fn contains(self, item: Item) -> bool
-        ensures { Decides result (item ∈ self.number) }
+        ensures { IsTrue result ↔ (item ∈ self.number) }
     {
         item < 32 && (self.number >> item) & 1 == 1
     }
@@ -87,9 +92,25 @@ impl ItemSet {
 
     // Whether every item of this set is in `other`.
     pub fn is_inside(self, other: ItemSet) -> bool
-        ensures { Decides result (self.number ⊆ other.number) }
+        ensures { IsTrue result ↔ (self.number ⊆ other.number) }
     {
         self.number & !other.number == 0
+    }
+
+    // The items of the set that `keep` says yes to.
+    pub fn filter<F: Fn(Item) -> bool>(self, keep: F) -> ItemSet
+        requires { (i : ℕ) → i ∈ self.number → F.pre keep i }
+        ensures inside { result.number ⊆ self.number }
+        ensures kept { (i : ℕ) → i ∈ result.number → F.post keep i true }
+        ensures others { (i : ℕ) → i ∈ self.number → i ∉ result.number → F.post keep i false }
+    {
+        let mut kept = ItemSet::EMPTY;
+        for item in self.items() {
+            if keep(item) {
+                kept = kept.with(item);
+            }
+        }
+        kept
     }
 
     // How many items the set has.
@@ -104,6 +125,27 @@ impl ItemSet {
         ensures { result.rest.number ≡ self.number }
     {
         Items { rest: self }
+    }
+}
+
+// A set is printed as its number.
+impl fmt::Display for ItemSet {
+    ghost output = { λ s. Some (decimal s.number) };
+
+    fn fmt<W: fmt::Write>(&self, f: &mut fmt::Formatter<W>) -> fmt::Result {
+        write!(f, "{}", self.number)
+    }
+}
+
+// And read from its number, written as a number is.
+impl FromStr for ItemSet {
+    type Err = ParseIntError;
+
+    ghost from_str_gives = { λ text r. ⟦<u32 as FromStr>⟧.from_str_gives text (result_map_both (λ s. s.number) (λ e. e) r) };
+
+    fn from_str(text: &str) -> Result<ItemSet, ParseIntError> {
+        let number = text.parse()?;
+        Ok(ItemSet { number })
     }
 }
 

@@ -15,6 +15,7 @@ pub enum Layer {
 }
 
 impl Layer {
+    // Its word, for callers who want the text and not a line; `Display` writes it.
     pub fn name(self) -> &'static str
         ensures { result.now ≡ word self }
     {
@@ -23,6 +24,15 @@ impl Layer {
             Layer::Table => "table",
             Layer::Listing => "listing",
         }
+    }
+}
+
+// A layer is printed as its word.
+impl fmt::Display for Layer {
+    ghost output = { λ l. Some (word l) };
+
+    fn fmt<W: fmt::Write>(&self, f: &mut fmt::Formatter<W>) -> fmt::Result {
+        f.write_str(self.name())
     }
 }
 
@@ -114,7 +124,7 @@ impl fmt::Display for Refusal {
 
     fn fmt<W: fmt::Write>(&self, f: &mut fmt::Formatter<W>) -> fmt::Result {
         let number = self.number();
-        let layer = self.layer().name();
+        let layer = self.layer();
         let place = self.place();
         write!(f, "refused: {number} {layer} {place}")
     }

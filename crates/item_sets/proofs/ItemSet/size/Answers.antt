@@ -5,4 +5,4 @@ use Rattle.item_sets.proofs.ItemSet.size.Goals as goal
 
 pub returns : goal.returns
 unfolding size
-returns c = ones_below 32 c.args.self.number (search rules)
+returns c = ones_below 32 _ (search rules)

@@ -5,4 +5,4 @@ use Rattle.item_sets.proofs.ItemSet.union.Goals as goal
 
 pub returns : goal.returns
 unfolding ◌∪◌
-returns c = record { members = ∈-∪ c.args.self.number c.args.other.number; number = refl }
+returns c = record { members = ∈-∪ _ _; number = refl }
