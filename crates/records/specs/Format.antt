@@ -2,7 +2,7 @@
 -- The trailer has the kind, the number of items, the number of rows in 2 bytes, and in 4 bytes the distance back from the
 -- trailer to the first row. Numbers have their low byte first.
 -- Assumes nothing.
-use Rattle.std.specs.Prelude.{◌≡◌, ℕ, ◌+◌, ◌-◌, ◌*◌, ◌<◌, ◌≤◌, List, length, slice_index}
+use Rattle.std.specs.Prelude.{◌≡◌, ℕ, ◌+◌, ◌-◌, ◌*◌, ◌<◌, ◌≤◌, List, length, codes, slice_index}
 use Rattle.refusals.specs.Report.{Report, says}
 use Rattle.refusals.specs.declared.Layer.TheVariants.{Record}
 use Rattle.records.specs.declared.Kind.{Kind}
@@ -14,6 +14,11 @@ use Rattle.records.specs.declared.Trailer.{Trailer}
 abbrev pub code : Kind → ℕ
 code Clauses = 67
 code Orders = 79
+
+-- the name of its tables
+abbrev pub word : Kind → List ℕ
+word Clauses = codes "clauses"
+word Orders = codes "orders"
 
 abbrev pub most_rows : Kind → ℕ
 most_rows Clauses = 120

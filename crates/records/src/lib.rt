@@ -1,12 +1,16 @@
 // Table records: what the trailer of a record says, and the checks that every kind of table shares.
 #![tactic(auto)]
 
-ghost use Rattle.std.specs.Prelude.{◌≡◌, MatchOption, MatchResult};
+ghost use Rattle.std.specs.Prelude.{◌≡◌, Some, MatchOption, MatchResult};
 ghost use Rattle.refusals.specs.Report.{report};
-ghost use Rattle.records.specs.Format.{code, OfKind, Says, Refused};
+ghost use Rattle.records.specs.Format.{code, word, OfKind, Says, Refused};
 ghost use Rattle.records.specs.Format.{most_rows as most, row_length as row_bytes};
 
+mod table;
+
 use refusals::Refusal;
+use std::fmt;
+pub use table::Table;
 
 // The two sorts of table.
 #[derive(Clone, Copy, PartialEq, Eq, Debug)]
@@ -16,7 +20,7 @@ pub enum Kind {
 }
 
 impl Kind {
-    // The kind of table that a record is of, if it says one.
+    // The kind of table that a record is of, if it says one. No `TryFrom`: a record is asked, and not turned into its kind.
     pub fn of(bytes: &[u8]) -> Option<Kind>
         ensures { MatchOption result ((k : Kind) → OfKind bytes.now k → ⊥) (OfKind bytes.now) }
     {
@@ -27,7 +31,7 @@ impl Kind {
         }
     }
 
-    // The byte by which a record says its kind.
+    // The byte by which a record says its kind. No `From`, since a kind has other numbers too.
     pub fn code(self) -> u8
         ensures { result ≡ code self }
     {
@@ -54,6 +58,18 @@ impl Kind {
             Kind::Clauses => 5,
             Kind::Orders => items,
         }
+    }
+}
+
+// A kind is printed as the name of its tables.
+impl fmt::Display for Kind {
+    ghost output = { λ k. Some (word k) };
+
+    fn fmt<W: fmt::Write>(&self, f: &mut fmt::Formatter<W>) -> fmt::Result {
+        f.write_str(match self {
+            Kind::Clauses => "clauses",
+            Kind::Orders => "orders",
+        })
     }
 }
 

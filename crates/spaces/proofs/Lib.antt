@@ -1,3 +1,2 @@
-pub mod Collecting
 pub mod Growing
 pub mod Theory

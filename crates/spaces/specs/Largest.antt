@@ -1,6 +1,6 @@
 -- Largest states inside sets, and the fringes of states, in a family of states.
 -- Assumes nothing.
-use Rattle.std.specs.Prelude.{◌≡◌, ℕ, Bool, ◌⊎◌, ◌↔◌, Ok, Err, Decides, Result}
+use Rattle.std.specs.Prelude.{◌≡◌, ℕ, Bool, ◌⊎◌, ◌↔◌, Ok, Err, IsTrue, Result}
 use Rattle.refusals.specs.declared.Layer.TheVariants.{Listing}
 use Rattle.refusals.specs.declared.Refusal.{Refusal}
 use Rattle.refusals.specs.Report.{report, says}
@@ -43,5 +43,5 @@ SameFringes G state K M = (i : ℕ) → (Inner state K i ↔ Inner state M i) ×
 -- what a call gives that is asked whether the states K and M are the same: they are so exactly where their fringes are the same.
 -- Of two that are no states, K is told
 abbrev pub Compared : ℕ → (ℕ → Type 0) → ℕ → ℕ → Result Bool Refusal → Type 0
-Compared G state K M (Ok same) = state K × state M × Decides same (SameFringes G state K M) × Decides same (K ≡ M)
+Compared G state K M (Ok same) = state K × state M × (IsTrue same ↔ SameFringes G state K M) × (IsTrue same ↔ (K ≡ M))
 Compared G state K M (Err e) = NotAState state K e ⊎ (state K × NotAState state M e)

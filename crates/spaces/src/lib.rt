@@ -1,7 +1,7 @@
 // The interface of a learning space, and all that follows from its laws alone.
 #![tactic(auto)]
 
-ghost use Rattle.std.specs.Prelude.{◌≡◌, ℕ, Decides};
+ghost use Rattle.std.specs.Prelude.{◌≡◌, ℕ, ◌↔◌, IsTrue};
 ghost use Rattle.refusals.specs.declared.Layer.TheVariants.{Listing};
 ghost use Rattle.refusals.specs.Report.{report, says};
 ghost use Rattle.spaces.specs.Laws.{LearningSpace};
@@ -22,7 +22,7 @@ pub trait Space {
         ensures { result.number ≡ ground_set self.now };
 
     fn is_state(&self, set: ItemSet) -> bool
-        ensures { Decides result (state self.now set.number) };
+        ensures { IsTrue result ↔ state self.now set.number };
 
     // The largest state inside a set: the union of all states inside it. A state is grown item by item, and after each
     // item those that did not fit before are tried again.
@@ -51,13 +51,7 @@ pub trait Space {
         if !self.is_state(set) {
             return Err(no_state(set));
         }
-        let mut fringe = ItemSet::EMPTY;
-        for item in set.items() {
-            if self.is_state(set.without(item)) {
-                fringe = fringe.with(item);
-            }
-        }
-        Ok(fringe)
+        Ok(set.filter(|item| self.is_state(set.without(item))))
     }
 
     // The items outside a state that can be added to it.
@@ -67,13 +61,8 @@ pub trait Space {
         if !self.is_state(set) {
             return Err(no_state(set));
         }
-        let mut fringe = ItemSet::EMPTY;
-        for item in self.items().difference(set).items() {
-            if self.is_state(set.with(item)) {
-                fringe = fringe.with(item);
-            }
-        }
-        Ok(fringe)
+        let outside = self.items().difference(set);
+        Ok(outside.filter(|item| self.is_state(set.with(item))))
     }
 
     // Whether two states are the same, by their fringes alone.

@@ -1,16 +1,12 @@
-use Rattle.std.proofs.Common.{◌≡◌, ℕ, sym, ap, ◌∙◌, subst, rules}
-use Rattle.item_sets.specs.declared.Items.{Items}
-use Rattle.spaces.proofs.Collecting.{InnerSoFar, inner_begins, inner_steps}
+use Rattle.std.proofs.Common.{ℕ, rules}
+use Rattle.item_sets.specs.Sets.{◌⊖◌}
+use Rattle.item_sets.proofs.Filtering.{members_filtered}
 use Rattle.spaces.proofs.Space.inner_fringe.Goals as goal
-
-pub loop-item-init : goal.loop-item-init
-loop-item-init g c =
-    let K = c.args.set.number in
-    let state = g.Self.Space.state c.args.self.now in
-    let from : c.into_iter-item-iterator.result.rest.number ≡ K =
-    ap (λ (s : Items). s.rest.number) c.into_iter-item-iterator.ensures.into_iter_gives ∙ c.items-item-items.ensures in
-    (subst (λ (R : ℕ). InnerSoFar state K R 0) (sym from) (inner_begins state K), inner_steps state K (search rules))
 
 pub returns : goal.returns
 returns g c =
-    (c.is_state.ensures.0 c.if-not-is_state.false, c.loop-item.invariant.1.ends _ _ _ c.loop-item.invariant.0 c.in-None.ensures.steps)
+    let K = c.args.set.number in
+    let state = g.Self.Space.state c.args.self.now in (
+      c.is_state.ensures.0 c.if-not-is_state.false,
+      members_filtered (λ (i : ℕ). state (K ⊖ i)) _ _ c.filter.ensures.inside (λ i h. let k = c.filter.ensures.kept i h in search rules) (λ i h n s. let k = c.filter.ensures.others i h n in search rules),
+    )

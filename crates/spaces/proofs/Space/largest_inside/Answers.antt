@@ -23,13 +23,6 @@ loop-item-smaller-then-is_state g c =
     c.loop-item.invariant.1.falls _ _ _ _ _ _ _ _ c.loop-item.invariant.0 c.in-Some.ensures.steps c.items-in-loop-item.ensures
     c.with-grown.ensures.number c.is_state.ensures c.if-is_state.true c.difference-untried.ensures.members (search rules)
 
-pub loop-item-preserved-then-is_state : goal.loop-item-preserved-then-is_state
-loop-item-preserved-then-is_state g c = (
-  c.loop-item.invariant.1.adds _ _ _ _ _ _ _ _ c.loop-item.invariant.0 c.in-Some.ensures.steps c.items-in-loop-item.ensures
-      c.with-grown.ensures.number c.is_state.ensures c.if-is_state.true c.difference-untried.ensures.members,
-  c.loop-item.invariant.1,
-)
-
 pub loop-item-preserved : goal.loop-item-preserved
 loop-item-preserved g c = (
   c.loop-item.invariant.1.passes _ _ _ _ _ _ _ _ c.loop-item.invariant.0 c.in-Some.ensures.steps c.items-in-loop-item.ensures
