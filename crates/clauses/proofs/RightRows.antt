@@ -1,12 +1,12 @@
 -- When a row is right.
 -- Assumes nothing.
-use Rattle.std.proofs.Common.{◌≡◌, ℕ, zero, suc, ◌+◌, ◌*◌, ◌^◌, ◌<◌, ◌≤◌, cond, eqb, ◌↔◌, List, length, refl, subst, ap₂, subst₂, arith}
+use Rattle.std.proofs.Common.{◌≡◌, ℕ, zero, suc, ◌+◌, ◌^◌, ◌<◌, ◌≤◌, cond, eqb, ◌↔◌, List, refl, subst, ap₂, le_refl, arith}
 use Rattle.item_sets.specs.Sets.{◌∈◌, ◌∉◌, ◌⊆◌, Members}
 use Rattle.records.specs.declared.Kind.TheVariants.{Clauses}
 use Rattle.records.specs.declared.Trailer.{Trailer}
-use Rattle.records.specs.Format.{Says, of_length, of_items, of_rows, of_distance}
+use Rattle.records.specs.Format.{Says, of_items, of_rows}
 use Rattle.clauses.specs.declared.clause.Clause.{Clause}
-use Rattle.clauses.specs.Clauses.{earlier, Right}
+use Rattle.clauses.specs.Clauses.{earlier, Follows, Right}
 use Rattle.item_sets.proofs.Members.{members_below, number_below}
 
 -- an alternative that lies inside the other items below n
@@ -26,24 +26,20 @@ module _ (f g : ℕ → Clause) where
   earlier_agree (suc k) i h =
       ap₂ (λ (m : ℕ) (q : Clause). m + cond (eqb q.item i) 1 0) (earlier_agree k i (λ j l. h j (omega arith))) (h k (omega arith))
 
+  pub follows_agree : (n k : ℕ) (c : Clause) → ((j : ℕ) → j < k → f j ≡ g j) → Follows n f k c → Follows n g k c
+  follows_agree n k c h r = record {
+    item_below = r.item_below;
+    in_order = λ j s. subst (λ (p : Clause). p.item ≤ c.item) (h j (omega arith)) (r.in_order j s);
+    at_most_four = subst (λ (m : ℕ). m < 4) (earlier_agree k c.item h) r.at_most_four;
+    inside = r.inside;
+    of_others = r.of_others;
+  }
+
   pub right_agree : (n k : ℕ) → ((j : ℕ) → j ≤ k → f j ≡ g j) → Right n f k → Right n g k
-  right_agree n k h r =
-      let e : f k ≡ g k = h k (omega arith) in
-      record {
-        item_below = subst (λ (q : Clause). q.item < n) e r.item_below;
-        in_order = λ j s. subst₂ (λ (p q : Clause). p.item ≤ q.item) (h j (omega arith)) e (r.in_order j s);
-        at_most_four =
-            subst (λ (m : ℕ). m < 4) (earlier_agree k (g k).item (λ j l. h j (omega arith)))
-            (subst (λ (q : Clause). earlier f k q.item < 4) e r.at_most_four);
-        inside = subst (λ (q : Clause). q.alternative.number < 2 ^ n) e r.inside;
-        of_others = subst (λ (q : Clause). q.item ∉ q.alternative.number) e r.of_others;
-      }
+  right_agree n k h r = subst (Follows n g k) (h k (le_refl k)) (follows_agree n k (f k) (λ j l. h j (omega arith)) r)
 
 -- what a right trailer says of the rows' places
 module _ (b : List ℕ) (t : Trailer) (s : Says Clauses b t) where
-  pub row_within : (k : ℕ) → k < t.rows → 5 * k + 5 ≤ length b
-  row_within k h = omega (arith, s.right of_distance, s.right of_length, s.same_rows)
-
   pub few_rows : t.rows ≤ 120
   few_rows = omega (arith, s.right of_rows, s.same_rows)
 

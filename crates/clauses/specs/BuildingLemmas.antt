@@ -64,27 +64,30 @@ module _ (G : ℕ) (met : ℕ → ℕ → Type 0) where
     module _ (N : ℕ) (small : (i : ℕ) → i ∈ G → i < N) (met_dec : (i X : ℕ) → Dec (met i X)) where
       can_add : (B : ℕ) (i : ℕ) → Dec ((i ∈ G) × (i ∉ B) × met i B)
       can_add B i =
-          elim (∈_dec i G) [
-            | no n ↦ no (λ p. n p.0)
-            | yes g ↦ elim (∈_dec i B) [
-              | yes b ↦ no (λ p. p.1 b)
-              | no n ↦ elim (met_dec i B) [ yes m ↦ yes (g, n, m) | no z ↦ no (λ p. z p.2) ]
-            ]
+          elim (Dec.and (∈_dec i G) (Dec.and (Dec.not (∈_dec i B)) (met_dec i B))) [
+            | yes p ↦ yes (p.0, p.1.0, p.1.1)
+            | no n ↦ no (λ p. n (p.0, (p.1, p.2)))
+          ]
+
+      -- inside X: what is grown from B can be built, and nothing of X can be added to it
+      grow_to : (X fuel B : ℕ) → Built G met B → B ⊆ X → X - B < fuel → (C : ℕ) × Built G met C × (C ⊆ X) × ((i : ℕ) → i ∈ G → i ∈ X → met i C → i ∈ C)
+      grow_to X zero B b f h = absurd (not-suc-le-zero h)
+      grow_to X (suc fuel) B b f h =
+          elim (some_below (λ i. (i ∈ X) × ((i ∈ G) × (i ∉ B) × met i B)) (λ i. Dec.and (∈_dec i X) (can_add B i)) N) [
+            | inl found ↦
+                let i = found.0 in
+                let item : i ∈ G = found.2.1.0 in
+                let new : i ∉ B = found.2.1.1 in
+                let still : B ⊕ i ⊆ X = with-⊆ B i X f found.2.0 in
+                let up : B < B ⊕ i = part_lt B (B ⊕ i) i (⊆-with B i) (with_has B i) new in
+                let most : B ⊕ i ≤ X = ⊆_le (B ⊕ i) X still in
+                grow_to X fuel (B ⊕ i) (add b i item new found.2.1.2) still (omega arith)
+            | inr none_left ↦
+                (B, b, f, λ i g x m. elim (∈_dec i B) [ yes there ↦ there | no n ↦ absurd (none_left i (small i g) (x, (g, n, m))) ])
           ]
 
       grow : (fuel B : ℕ) → Built G met B → G - B < fuel → (C : ℕ) × Built G met C × ((i : ℕ) → i ∈ G → met i C → i ∈ C)
-      grow zero B b h = absurd (not-suc-le-zero h)
-      grow (suc fuel) B b h =
-          elim (some_below (λ i. (i ∈ G) × (i ∉ B) × met i B) (can_add B) N) [
-            | inl found ↦
-                let i = found.0 in
-                let more : Built G met (B ⊕ i) = add b i found.2.0 found.2.1 found.2.2 in
-                let up : B < B ⊕ i = part_lt B (B ⊕ i) i (⊆-with B i) (with_has B i) found.2.1 in
-                let most : B ⊕ i ≤ G = ⊆_le (B ⊕ i) G (built_inside (B ⊕ i) more) in
-                grow fuel (B ⊕ i) more (omega arith)
-            | inr none_left ↦
-                (B, b, λ i g m. elim (∈_dec i B) [ yes there ↦ there | no n ↦ absurd (none_left i (small i g) (g, n, m)) ])
-          ]
+      grow fuel B b h = let C = grow_to G fuel B b (built_inside B b) h in (C.0, C.1, λ i g m. C.3 i g g m)
 
       -- where each item of G lies in some buildable set, G can be built
       pub whole_from_items : ((i : ℕ) → i ∈ G → ∥ ((K : ℕ) × (i ∈ K) × Built G met K) ∥₁) → Built G met G
@@ -98,24 +101,9 @@ module _ (G : ℕ) (met : ℕ → ℕ → Type 0) where
           ] in
           subst (Built G met) (⊆_antisym C.0 G (built_inside C.0 C.1) all) C.1
 
-      -- growing inside X until nothing of X can be added: the largest set inside X that can be built
+      -- what is grown inside X is the largest set inside X that can be built
       grow_inside : (X fuel B : ℕ) → Built G met B → B ⊆ X → X - B < fuel → (L : ℕ) × Largest (Built G met) X L
-      grow_inside X zero B b f h = absurd (not-suc-le-zero h)
-      grow_inside X (suc fuel) B b f h =
-          elim (some_below (λ i. ((i ∈ G) × (i ∈ X)) × ((i ∉ B) × met i B))
-          (λ i. Dec.and (Dec.and (∈_dec i G) (∈_dec i X)) (Dec.and (Dec.not (∈_dec i B)) (met_dec i B))) N) [
-            | inl found ↦
-                let i = found.0 in
-                let new : i ∉ B = found.2.1.0 in
-                let still : B ⊕ i ⊆ X = with-⊆ B i X f found.2.0.1 in
-                let up : B < B ⊕ i = part_lt B (B ⊕ i) i (⊆-with B i) (with_has B i) new in
-                let most : B ⊕ i ≤ X = ⊆_le (B ⊕ i) X still in
-                grow_inside X fuel (B ⊕ i) (add b i found.2.0.0 new found.2.1.1) still (omega arith)
-            | inr none_left ↦
-                let closed : (i : ℕ) → i ∈ G → i ∈ X → met i B → i ∈ B =
-                λ i g x m. elim (∈_dec i B) [ yes there ↦ there | no n ↦ absurd (none_left i (small i g) ((g, x), (n, m))) ] in
-                (B, largest_of (Built G met) X B b f (closed_holds X B closed))
-          ]
+      grow_inside X fuel B b f h = let C = grow_to X fuel B b f h in (C.0, largest_of (Built G met) X C.0 C.1 C.2 (closed_holds X C.0 C.3))
 
       pub largest_built : (X : ℕ) → (L : ℕ) × Largest (Built G met) X L
       largest_built X = grow_inside X (suc X) 0 none (empty_⊆ X) (omega arith)

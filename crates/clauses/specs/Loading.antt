@@ -1,16 +1,15 @@
--- Clause records: what their rows spell, when they are refused, and what loading leaves.
+-- Clause records: what their rows spell, when they are refused, and what a table then holds.
 -- Assumes nothing.
-use Rattle.std.specs.Prelude.{◌≡◌, ℕ, ◌+◌, ◌*◌, ◌<◌, List, Ok, Err, Result}
+use Rattle.std.specs.Prelude.{◌≡◌, ℕ, ◌+◌, ◌*◌, ◌<◌, List}
 use Rattle.refusals.specs.declared.Layer.TheVariants.{Record, Table}
-use Rattle.refusals.specs.declared.Refusal.{Refusal}
-use Rattle.refusals.specs.Report.{Report, says, report}
+use Rattle.refusals.specs.Report.{Report, says}
 use Rattle.records.specs.declared.Kind.TheVariants.{Clauses}
 use Rattle.records.specs.Format as format
 use Rattle.records.specs.Format.{byte, four_bytes, items, rows}
 use Rattle.clauses.specs.declared.clause.Clause.{Clause}
 use Rattle.clauses.specs.declared.list.ClauseList.{ClauseList}
 use Rattle.clauses.specs.declared.table.ClauseTable.{ClauseTable}
-use Rattle.clauses.specs.Clauses.{at, Right, Reachable}
+use Rattle.clauses.specs.Clauses.{at, Right, Reachable, LeastUnreachable}
 
 -- a row has 5 bytes: the item, then its alternative as a set number of 4 bytes
 abbrev pub row : List ℕ → ℕ → Clause
@@ -31,12 +30,6 @@ pub record Spelled (b : List ℕ) (l : ClauseList) : Type 0 where
   pub same_length : l.len ≡ rows b
   pub same_clauses : (k : ℕ) → k < rows b → at l.clauses k ≡ row b k
   pub right : (k : ℕ) → k < rows b → RightRow b k
-
--- item i lies in no set that can be built, and is the least such
-pub record LeastUnreachable (n len : ℕ) (f : ℕ → Clause) (i : ℕ) : Type 0 where
-  pub is_item : i < n
-  pub unreachable : Reachable n len f i → ⊥
-  pub least : (j : ℕ) → j < i → Reachable n len f j
 
 -- a record that loads
 pub record Lawful (b : List ℕ) : Type 0 where
@@ -59,8 +52,3 @@ pub record Holds (t : ClauseTable) (n len : ℕ) (f : ℕ → Clause) : Type 0 w
   pub same_items : t.list.items ≡ n
   pub same_length : t.list.len ≡ len
   pub same_clauses : (k : ℕ) → k < len → at t.list.clauses k ≡ f k
-
--- what loading the record b gives, and what the table is then
-abbrev pub Loaded : List ℕ → ClauseTable → Result (Unit {0}) Refusal → ClauseTable → Type 0
-Loaded b before (Ok done) after = Lawful b × Holds after (items b) (rows b) (row b)
-Loaded b before (Err e) after = Refused b (report e) × (after ≡ before)

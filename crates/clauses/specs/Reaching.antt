@@ -3,6 +3,7 @@
 use Rattle.std.specs.Prelude.{◌≡◌, ℕ, ◌<◌, ◌≤◌, ◌↔◌}
 use Rattle.std.proofs.Common.{sym, subst, inl, inr, arith}
 use Rattle.std.proofs.Math.Decide.{ℕ_discrete}
+use mathlib.Core.Logic.Dec
 use Rattle.item_sets.specs.Sets.{◌∈◌, ◌∉◌, ◌⊆◌, first, Members, Least}
 use Rattle.item_sets.proofs.Members.{∈_dec, ∈-first, ∉_empty, ⊆_dec}
 use Rattle.spaces.specs.Largest.{Largest}
@@ -10,26 +11,19 @@ use Rattle.spaces.specs.Laws.{LearningSpace}
 use Rattle.clauses.specs.declared.clause.Clause.{Clause}
 use Rattle.clauses.specs.declared.list.ClauseList.{ClauseList}
 use Rattle.clauses.specs.declared.table.ClauseTable.{ClauseTable}
-use Rattle.clauses.specs.Clauses.{at, Met, Reachable}
-use Rattle.clauses.specs.Loading.{LeastUnreachable}
-use Rattle.clauses.specs.Tables.{Builds}
+use Rattle.clauses.specs.Clauses.{at, Met}
+use Rattle.clauses.specs.Tables.{Builds, Reaches, Misses}
 use Rattle.clauses.specs.BuildingLemmas.{some_below, whole_from_items, built_space, built_inside}
 use Rattle.clauses.specs.Passes.{met_stays}
 
 -- whether an item can be added is decided: there are finitely many clauses
 met_dec : (len : ℕ) (f : ℕ → Clause) (i X : ℕ) → Dec (Met len f i X)
 met_dec len f i X =
-    elim (some_below (λ k. ((f k).item ≡ i) × ((f k).alternative.number ⊆ X)) one len) [
+    elim (some_below (λ k. ((f k).item ≡ i) × ((f k).alternative.number ⊆ X))
+    (λ k. Dec.and (ℕ_discrete (f k).item i) (⊆_dec (f k).alternative.number X)) len) [
       | inl found ↦ yes (found.0, found.1, found.2.0, found.2.1)
       | inr rest ↦ no (λ m. rest m.0 m.1 (m.2, m.3))
     ]
-  where
-    one : (k : ℕ) → Dec (((f k).item ≡ i) × ((f k).alternative.number ⊆ X))
-    one k =
-        elim (ℕ_discrete (f k).item i) [
-          | no n ↦ no (λ p. n p.0)
-          | yes e ↦ elim (⊆_dec (f k).alternative.number X) [ yes s ↦ yes (e, s) | no n ↦ no (λ p. n p.1) ]
-        ]
 
 pub table_laws : (t : ClauseTable) → LearningSpace (first t.list.items) (Builds t.list)
 table_laws t =
@@ -51,14 +45,14 @@ module _ (l : ClauseList) (A B D : ℕ) (whole : A ≡ first l.items) (p : Large
   is_item : (i : ℕ) → (i ∈ A) ↔ (i < l.items)
   is_item i = subst (λ (X : ℕ). (i ∈ X) ↔ (i < l.items)) (sym whole) (∈-first l.items i)
 
-  not_left : (i : ℕ) → i < l.items → (i ∈ D → ⊥) → Reachable l.items l.len (at l.clauses) i
+  not_left : (i : ℕ) → i < l.items → (i ∈ D → ⊥) → Reaches l i
   not_left i h n =
       elim (∈_dec i B) [ yes b ↦ (B, b, p.is_state) | no nb ↦ absurd (n ((rest i).1 ((is_item i).1 h, nb))) ]
 
-  pub all_reached : D ≡ 0 → (i : ℕ) → i < l.items → Reachable l.items l.len (at l.clauses) i
+  pub all_reached : D ≡ 0 → (i : ℕ) → i < l.items → Reaches l i
   all_reached e i h = not_left i h (λ m. ∉_empty i (subst (λ (X : ℕ). i ∈ X) e m))
 
-  pub least_left : (i : ℕ) → Least D i → LeastUnreachable l.items l.len (at l.clauses) i
+  pub least_left : (i : ℕ) → Least D i → Misses l i
   least_left i least =
       let left = (rest i).0 least.0 in
       let item : i < l.items = (is_item i).0 left.0 in

@@ -29,7 +29,7 @@ impl ClauseList {
         ensures { Pass self.now within.number start.number result.number self.now.len }
     {
         let mut built = start;
-        for clause in &self.clauses[0..self.len] {
+        for clause in &self.clauses[..self.len] {
             if clause.adds(built, within) {
                 built = built.with(clause.item);
             }

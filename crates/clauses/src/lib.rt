@@ -4,8 +4,6 @@
 mod build;
 mod clause;
 mod list;
-mod load;
-mod rows;
 mod space;
 mod table;
 #[cfg(test)]

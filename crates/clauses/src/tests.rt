@@ -1,6 +1,7 @@
 // Records at the edges of what is taken.
 use super::*;
 use item_sets::ItemSet;
+use records::Table;
 use refusals::Layer;
 use spaces::Space;
 use std::alloc::{AllocError, Global};
@@ -13,6 +14,8 @@ const THREE: [u8; 23] = [
 ];
 
 // Loads `THREE` into a table and then `bytes`, which must be refused as told and leave the table.
+// What is told is held against the rules' numbers, and against no `Refusal`, whose numbers are then tried too. The tests of the
+// other sort of table have the like: one for both would need a crate of its own.
 fn refused(
     rt: &impl Abort,
     bytes: &[u8],

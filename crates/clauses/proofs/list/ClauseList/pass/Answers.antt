@@ -1,4 +1,4 @@
-use Rattle.std.proofs.Common.{◌≡◌, ◌+◌, ◌-◌, ◌<◌, Decides, sym, ap, ◌∙◌, subst, arith, get_or-take, rules}
+use Rattle.std.proofs.Common.{◌≡◌, ◌+◌, ◌<◌, Decides, sym, ap, ◌∙◌, subst, arith, get_or-take, rules}
 use Rattle.std.proofs.lemmas.Bool.Decides.{not_from_Decides}
 use Rattle.item_sets.specs.declared.ItemSet.{ItemSet}
 use Rattle.item_sets.specs.Sets.{◌∈◌, ◌⊆◌, ◌⊕◌}
@@ -17,7 +17,7 @@ loop-clause-preserved c =
     let C = c.loop-clause.built.number in
     let p = c.loop-clause.invariant in
     let lt : k < l.len = search rules in
-    let read : at _ k ≡ at l.clauses k = get_or-take (l.len - 0) l.clauses k _ (omega arith) in
+    let read : at _ k ≡ at l.clauses k = get_or-take l.len l.clauses k _ (omega arith) in
     let adds : Decides c.adds.result (((at l.clauses k).item ∈ X) × ((at l.clauses k).alternative.number ⊆ C)) =
     subst (λ (q : Clause). Decides c.adds.result ((q.item ∈ X) × (q.alternative.number ⊆ C))) read c.adds.ensures in
     elim c.if-adds.branch [
