@@ -1,10 +1,9 @@
--- What loading an order table does with a record, right or wrong.
+-- Order records: what their rows spell, and when they are refused.
 -- Assumes nothing.
-use Rattle.std.specs.Prelude.{◌≡◌, ℕ, ◌*◌, ◌<◌, ◌⊎◌, List, map, take, drop, Ok, Err, Result}
+use Rattle.std.specs.Prelude.{◌≡◌, ℕ, ◌*◌, ◌<◌, ◌⊎◌, List, map, take, drop}
 use Rattle.std.specs.List.{range_with_len}
-use Rattle.refusals.specs.Report.{Report, says, report}
+use Rattle.refusals.specs.Report.{Report, says}
 use Rattle.refusals.specs.declared.Layer.TheVariants.{Record}
-use Rattle.refusals.specs.declared.Refusal.{Refusal}
 use Rattle.records.specs.Format.{items, rows, Right}
 use Rattle.records.specs.Format as trailer
 use Rattle.records.specs.declared.Kind.TheVariants.{Orders}
@@ -36,8 +35,3 @@ pub record WrongRow (b : List ℕ) (told : Report) : Type 0 where
 -- the record is refused: for its trailer, or else for a row
 abbrev pub Refused : List ℕ → Report → Type 0
 Refused b told = trailer.Refused Orders b told ⊎ (Right Orders b × WrongRow b told)
-
--- loading replaces what the table held, or refuses and leaves it as it was
-abbrev pub Loaded : List ℕ → OrderTable → Result (Unit {0}) Refusal → OrderTable → Type 0
-Loaded b before (Ok _) after = Right Orders b × Holds b after
-Loaded b before (Err e) after = Refused b (report e) × (after ≡ before)

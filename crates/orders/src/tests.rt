@@ -1,10 +1,10 @@
 // A small table, and every refusal of the loader at its edge.
-ghost use Rattle.std.specs.Prelude.{◌≤◌};
-
 use super::*;
 use item_sets::ItemSet;
+use records::Table;
 use refusals::Layer;
 use spaces::Space;
+use std::alloc::{AllocError, Global};
 use std::process::Abort;
 use std::test::Fail;
 
@@ -21,6 +21,8 @@ fn check_states_of_two_orders(rt: &impl Abort, table: &OrderTable) {
 }
 
 // The record is refused for this reason, and the table is left as it was.
+// What is told is held against the rules' numbers, and against no `Refusal`, whose numbers are then tried too. The tests of the
+// other sort of table have the like: one for both would need a crate of its own.
 fn check_refused(rt: &impl Abort, bytes: &[u8], number: u8, place: u64) -> Result<(), Fail> {
     let mut table = OrderTable::fresh();
     table.load(&TWO_ORDERS)?;
@@ -34,19 +36,12 @@ fn check_refused(rt: &impl Abort, bytes: &[u8], number: u8, place: u64) -> Resul
     Ok(())
 }
 
-// The record of one row, the `n` items in rising order: the first n + 8 bytes.
-fn rising(n: usize) -> [u8; 39]
-    requires { n ≤ 31 }
-{
-    let mut bytes = [0; 39];
-    for i in 0..n {
-        bytes[i] = i as u8;
-    }
-    bytes[n] = b'O';
-    bytes[n + 1] = n as u8;
-    bytes[n + 2] = 1;
-    bytes[n + 4] = n as u8;
-    bytes
+// The record of one row, the `n` items in rising order.
+fn rising(heap: Global, n: u8) -> Result<Vec<u8>, AllocError> {
+    let mut bytes = Vec::new(heap);
+    bytes.extend(0..n)?;
+    bytes.extend_from_slice(&[b'O', n, 1, 0, n, 0, 0, 0])?;
+    Ok(bytes)
 }
 
 #[test]
@@ -74,10 +69,11 @@ fn the_first_wrong_row_is_told(rt: HostRuntime) -> Result<(), Fail> {
 
 #[test]
 fn thirty_items_are_the_most(rt: HostRuntime) -> Result<(), Fail> {
-    check_refused(&rt, &rising(31), 3, 32)?;
-    let bytes = rising(30);
+    let many = rising(rt.alloc(), 31)?;
+    check_refused(&rt, many.as_slice(), 3, 32)?;
+    let full = rising(rt.alloc(), 30)?;
     let mut table = OrderTable::fresh();
-    table.load(&bytes[0..38])?;
+    table.load(full.as_slice())?;
     assert_eq!(rt; table.items(), ItemSet::all_below(30));
     assert!(rt; table.is_state(ItemSet::all_below(29)));
     assert!(rt; !table.is_state(ItemSet::EMPTY.with(29)));

@@ -19,7 +19,7 @@ impl OrderTable {
         ensures exact { (result.number ≡ set.number) ↔ UnionOfBeginnings (orders self.now) set.number }
     {
         let mut largest = ItemSet::EMPTY;
-        for row in &self.rows[0..self.len] {
+        for row in &self.rows[..self.len] {
             largest = largest.union(row.longest_beginning(self.items, set));
         }
         largest
