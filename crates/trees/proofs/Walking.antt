@@ -2,10 +2,10 @@
 -- Assumes nothing.
 use Rattle.std.proofs.Common.{◌≡◌, ℕ, ◌+◌, ◌<◌, ◌≤◌, ◌⊎◌, List, [], ◌∷◌, ◌++◌, length, Some, None, sym, ap, ◌∙◌, subst, inl, inr, ⊎_elim, append_assoc, append-nil, zero-le, arith, length-append}
 use native.Mathlib.Decide.{ℕ_discrete}
-use Rattle.std.specs.List.{AllByRecursion}
+use Rattle.std.proofs.lemmas.List.Elements.{All-contains, Contains-push}
 use Rattle.trees.specs.Listings.{Before}
-use Rattle.trees.specs.Trees.{Node, Further, Parent, Laws}
-use Rattle.trees.specs.Walking.{FirstChild, FirstOf}
+use Rattle.trees.specs.Trees.{Shape, Node, Further, Parent, Laws}
+use Rattle.trees.specs.Walking.{After, FirstChild, FirstOf}
 use Rattle.trees.specs.Words.{◌≺◌}
 use Rattle.trees.proofs.Words.{≺_irrefl, ≺_cases, ≺_along, ≺_rest, ≺_between, snoc_cases}
 
@@ -18,29 +18,25 @@ not_before_empty (i ∷ w) h = h
 cut : (u : List ℕ) (i : ℕ) (r : List ℕ) → u ++ (i ∷ r) ≡ (u ++ (i ∷ [])) ++ r
 cut u i r = sym (append_assoc u (i ∷ []) r)
 
-module _ {N : Type 0} (stands : N → List ℕ → Type 0) where
+module _ {N : Type 0} (tree : Shape N) where
   -- the nodes after w do not begin with u
   pub Done : List ℕ → List ℕ → Type 0
-  Done w u = (m : N) (r : List ℕ) → stands m (u ++ r) → w ≺ u ++ r → ⊥
+  Done w u = (m : N) (r : List ℕ) → tree.stands m (u ++ r) → w ≺ u ++ r → ⊥
 
-  -- m is a node after n
-  abbrev pub After : N → N → Type 0
-  After n m = Node stands m × Before stands n m
-
-module _ {N : Type 0} (stands : N → List ℕ → Type 0) (wanted : N → Type 0) (laws : Laws stands wanted) where
+module _ {N : Type 0} {tree : Shape N} (laws : Laws tree) where
   -- a node past n with a letter i has a node one letter further than n on its way
-  on_the_way : (n m : N) (u : List ℕ) (i : ℕ) (r : List ℕ) → stands n u → stands m (u ++ (i ∷ r)) → (k : N) × Further stands n i k
+  on_the_way : (n m : N) (u : List ℕ) (i : ℕ) (r : List ℕ) → tree.stands n u → tree.stands m (u ++ (i ∷ r)) → (k : N) × Further tree n i k
   on_the_way n m u i r here there =
-      let b = laws.beginnings m (u ++ (i ∷ [])) r (subst (stands m) (cut u i r) there) in
+      let b = laws.beginnings m (u ++ (i ∷ [])) r (subst (tree.stands m) (cut u i r) there) in
       (b.0, (u, here, b.1))
 
-  before_words : (n m : N) (w v : List ℕ) → stands n w → stands m v → Before stands n m → w ≺ v
+  before_words : (n m : N) (w v : List ℕ) → tree.stands n w → tree.stands m v → Before tree n m → w ≺ v
   before_words n m w v a b h =
       subst (λ (x : List ℕ). x ≺ v) (laws.one_word n h.0 w h.2 a)
       (subst (λ (y : List ℕ). h.0 ≺ y) (laws.one_word m h.1 v h.3 b) h.4)
 
   -- nothing is left below a node without children
-  pub leaf : (n : N) (w : List ℕ) → stands n w → FirstChild stands n 0 None → Done stands w w
+  pub leaf : (n : N) (w : List ℕ) → tree.stands n w → FirstChild tree n 0 None → Done tree w w
   unfolding Done
   leaf n w here none m [] there h = absurd (≺_irrefl w (subst (λ (v : List ℕ). w ≺ v) (append-nil w) h))
   leaf n w here none m (i ∷ r) there h =
@@ -54,48 +50,48 @@ module _ {N : Type 0} (stands : N → List ℕ → Type 0) (wanted : N → Type 
   not_back u (i ∷ a) h = ≺_rest u (i ∷ a) [] h
 
   -- c comes next after n, where both begin with u, c has one letter j more, and no node after n goes on from u with a smaller one
-  next_is : (n c : N) (u a : List ℕ) (j : ℕ) → stands n (u ++ a) → stands c (u ++ (j ∷ [])) → u ++ a ≺ u ++ (j ∷ [])
-      → ((m : N) (k : ℕ) (r : List ℕ) → stands m (u ++ (k ∷ r)) → u ++ a ≺ u ++ (k ∷ r) → k < j → ⊥) → FirstOf stands (After stands n) (Some c)
+  next_is : (n c : N) (u a : List ℕ) (j : ℕ) → tree.stands n (u ++ a) → tree.stands c (u ++ (j ∷ [])) → u ++ a ≺ u ++ (j ∷ [])
+      → ((m : N) (k : ℕ) (r : List ℕ) → tree.stands m (u ++ (k ∷ r)) → u ++ a ≺ u ++ (k ∷ r) → k < j → ⊥) → FirstOf tree (After tree n) (Some c)
   unfolding ◌≺◌
   next_is n c u a j here there up smaller = (((u ++ (j ∷ []), there), (u ++ a, u ++ (j ∷ []), here, there, up)), λ k h. go k h.0.0 h.0.1 (before_words n k (u ++ a) h.0.0 here h.0.1 h.1))
     where
-      below : (k : N) (z : List ℕ) → stands k z → u ++ a ≺ z → z ≺ u ++ (j ∷ []) → (r : List ℕ) → z ≡ u ++ r → ⊥
+      below : (k : N) (z : List ℕ) → tree.stands k z → u ++ a ≺ z → z ≺ u ++ (j ∷ []) → (r : List ℕ) → z ≡ u ++ r → ⊥
       below k z at l g [] e = not_back u a (subst (λ (x : List ℕ). u ++ a ≺ x) e l)
       below k z at l g (i ∷ r) e =
-          smaller k i r (subst (stands k) e at) (subst (λ (x : List ℕ). u ++ a ≺ x) e l)
+          smaller k i r (subst (tree.stands k) e at) (subst (λ (x : List ℕ). u ++ a ≺ x) e l)
           (⊎_elim (λ lt. lt) (λ s. absurd (not_before_empty r s.1)) (≺_rest u (i ∷ r) (j ∷ []) (subst (λ (x : List ℕ). x ≺ u ++ (j ∷ [])) e g)))
 
-      go : (k : N) (z : List ℕ) → stands k z → u ++ a ≺ z → (k ≡ c) ⊎ Before stands c k
+      go : (k : N) (z : List ℕ) → tree.stands k z → u ++ a ≺ z → (k ≡ c) ⊎ Before tree c k
       go k z at l =
           ⊎_elim
           (λ g. let f = ≺_between u a (j ∷ []) z l g in absurd (below k z at l g f.0 f.1))
-          (⊎_elim (λ e. inl (laws.one_node k c (u ++ (j ∷ [])) (subst (stands k) e at) there)) (λ g. inr (u ++ (j ∷ []), z, there, at, g)))
+          (⊎_elim (λ e. inl (laws.one_node k c (u ++ (j ∷ [])) (subst (tree.stands k) e at) there)) (λ g. inr (u ++ (j ∷ []), z, there, at, g)))
           (≺_cases z (u ++ (j ∷ [])))
 
   -- the first child comes next
-  pub child_next : (n c : N) (w : List ℕ) → stands n w → FirstChild stands n 0 (Some c) → FirstOf stands (After stands n) (Some c)
+  pub child_next : (n c : N) (w : List ℕ) → tree.stands n w → FirstChild tree n 0 (Some c) → FirstOf tree (After tree n) (Some c)
   unfolding ◌≺◌
   child_next n c w here first =
       let j = first.0 in
       let f = first.2 in
-      let there : stands c (w ++ (j ∷ [])) = subst (λ (x : List ℕ). stands c (x ++ (j ∷ []))) (laws.one_word n f.0 w f.1 here) f.2 in
-      next_is n c w [] j (subst (stands n) (sym (append-nil w)) here) there (≺_along w [] (j ∷ []) tt)
+      let there : tree.stands c (w ++ (j ∷ [])) = subst (λ (x : List ℕ). tree.stands c (x ++ (j ∷ []))) (laws.one_word n f.0 w f.1 here) f.2 in
+      next_is n c w [] j (subst (tree.stands n) (sym (append-nil w)) here) there (≺_along w [] (j ∷ []) tt)
       (λ m k r at h lt. let found = on_the_way n m w k r here at in first.3 k found.0 zero-le lt found.1)
 
-  module _ (n : N) (w : List ℕ) (here : stands n w) (p : N) (u : List ℕ) (i : ℕ) (at : stands p u) (rest : List ℕ) (way : w ≡ u ++ (i ∷ rest)) (done : Done stands w (u ++ (i ∷ []))) where
+  module _ (n : N) (w : List ℕ) (here : tree.stands n w) (p : N) (u : List ℕ) (i : ℕ) (at : tree.stands p u) (rest : List ℕ) (way : w ≡ u ++ (i ∷ rest)) (done : Done tree w (u ++ (i ∷ []))) where
     -- what a node after n that begins with u goes on with
-    later : (m : N) (k : ℕ) (r : List ℕ) → stands m (u ++ (k ∷ r)) → w ≺ u ++ (k ∷ r) → i < k
+    later : (m : N) (k : ℕ) (r : List ℕ) → tree.stands m (u ++ (k ∷ r)) → w ≺ u ++ (k ∷ r) → i < k
     unfolding Done ◌≺◌
     later m k r there h =
         let past : (i ∷ rest) ≺ (k ∷ r) = ≺_rest u (i ∷ rest) (k ∷ r) (subst (λ (x : List ℕ). x ≺ u ++ (k ∷ r)) way h) in
         ⊎_elim (λ l. l)
         (λ e. absurd (done m r
-        (subst (stands m) (ap (λ (j : ℕ). u ++ (j ∷ r)) (sym e.0) ∙ cut u i r) there)
+        (subst (tree.stands m) (ap (λ (j : ℕ). u ++ (j ∷ r)) (sym e.0) ∙ cut u i r) there)
         (subst (λ (z : List ℕ). w ≺ z) (ap (λ (j : ℕ). u ++ (j ∷ r)) (sym e.0) ∙ cut u i r) h)))
         past
 
     -- no later child: nothing is left below the parent
-    pub climb : FirstChild stands p (i + 1) None → Done stands w u
+    pub climb : FirstChild tree p (i + 1) None → Done tree w u
     unfolding Done
     climb none m [] there h = not_back u (i ∷ rest) (subst (λ (x : List ℕ). x ≺ u ++ []) way h)
     climb none m (k ∷ r) there h =
@@ -104,109 +100,107 @@ module _ {N : Type 0} (stands : N → List ℕ → Type 0) (wanted : N → Type 
         none k found.0 (omega arith) found.1
 
     -- the next child comes next
-    pub sibling : (c : N) → FirstChild stands p (i + 1) (Some c) → FirstOf stands (After stands n) (Some c)
+    pub sibling : (c : N) → FirstChild tree p (i + 1) (Some c) → FirstOf tree (After tree n) (Some c)
     unfolding ◌≺◌
     sibling c first =
         let j = first.0 in
         let f = first.2 in
-        let there : stands c (u ++ (j ∷ [])) = subst (λ (x : List ℕ). stands c (x ++ (j ∷ []))) (laws.one_word p f.0 u f.1 at) f.2 in
+        let there : tree.stands c (u ++ (j ∷ [])) = subst (λ (x : List ℕ). tree.stands c (x ++ (j ∷ []))) (laws.one_word p f.0 u f.1 at) f.2 in
         let low : i + 1 ≤ j = first.1 in
-        next_is n c u (i ∷ rest) j (subst (stands n) way here) there (≺_along u (i ∷ rest) (j ∷ []) (inl (omega arith)))
+        next_is n c u (i ∷ rest) j (subst (tree.stands n) way here) there (≺_along u (i ∷ rest) (j ∷ []) (inl (omega arith)))
         (λ m k r on h lt. let found = on_the_way p m u k r at on in
         let past : i < k = later m k r on (subst (λ (x : List ℕ). x ≺ u ++ (k ∷ r)) (sym way) h) in
         first.3 k found.0 (omega arith) lt found.1)
 
--- ---- what the loops of the walk keep, as a search sees it, beside the steps that keep it
+-- ---- what the loops of the walk keep
 
 -- no letter from `least` to below i leads further from n
-pub NoneBelow : {N : Type 0} → (N → List ℕ → Type 0) → N → ℕ → ℕ → Type 0
-NoneBelow {N} stands n least i = (j : ℕ) (k : N) → least ≤ j → j < i → Further stands n j k → ⊥
+pub record NoneBelow {N : Type 0} (tree : Shape N) (n : N) (least i : ℕ) : Type 0 where
+  pub none : (j : ℕ) (k : N) → least ≤ j → j < i → Further tree n j k → ⊥
 
-pub record ChildSteps {N : Type 0} (stands : N → List ℕ → Type 0) (n : N) (least : ℕ) : Type 0 where
-  pub more : (i : ℕ) → NoneBelow stands n least i → ((m : N) → Further stands n i m → ⊥) → NoneBelow stands n least (i + 1)
-  pub found : (i : ℕ) (m : N) → NoneBelow stands n least i → least ≤ i → Further stands n i m → FirstChild stands n least (Some m)
-  pub ends : (i : ℕ) → NoneBelow stands n least i → 30 ≤ i → FirstChild stands n least None
+-- a letter is below 30
+pub letter_low : {N : Type 0} {tree : Shape N} (laws : Laws tree) {n m : N} {i : ℕ} → Further tree n i m → i < 30
+letter_low laws {n} {m} {i} f = All-contains (λ j. j < 30) (f.0 ++ i ∷ []) i (laws.letters m (f.0 ++ i ∷ []) f.2) (Contains-push f.0 i)
 
-pub none_below : {N : Type 0} (stands : N → List ℕ → Type 0) (n : N) (least : ℕ) → NoneBelow stands n least least
-unfolding NoneBelow
-none_below stands n least j k low high f = omega arith
-
-module _ {N : Type 0} (stands : N → List ℕ → Type 0) (wanted : N → Type 0) (laws : Laws stands wanted) where
-  last_letter : (w : List ℕ) (i : ℕ) → AllByRecursion (λ j. j < 30) (w ++ (i ∷ [])) → i < 30
-  last_letter [] i a = a.0
-  last_letter (j ∷ w) i a = last_letter w i a.1
-
-  -- a letter is below 30
-  pub letter_low : (n m : N) (i : ℕ) → Further stands n i m → i < 30
-  letter_low n m i f = last_letter f.0 i (laws.letters m (f.0 ++ (i ∷ [])) f.2)
-
-  pub child_steps : (n : N) (least : ℕ) → ChildSteps stands n least
-  unfolding NoneBelow
-  child_steps n least = record {
-    more = λ i none no_child j k low high f.
+module _ {N : Type 0} {tree : Shape N} {n : N} {least i : ℕ} (p : NoneBelow tree n least i) where
+  pub none_below_more : ((m : N) → Further tree n i m → ⊥) → NoneBelow tree n least (i + 1)
+  none_below_more no_child = record {
+    none = λ j k low high f.
         elim (ℕ_discrete j i) [
-          | yes e ↦ no_child k (subst (λ (x : ℕ). Further stands n x k) e f)
-          | no ne ↦ none j k low (omega arith) f
+          | yes e ↦ no_child k (subst (λ (x : ℕ). Further tree n x k) e f)
+          | no ne ↦ p.none j k low (omega (arith, high, ne)) f
         ];
-    found = λ i m none low f. (i, low, f, none);
-    ends = λ i none all j k low f. let below : j < 30 = letter_low n k j f in none j k low (omega arith) f;
   }
 
+  pub none_found : Laws tree → 30 ≤ i → FirstChild tree n least None
+  none_found laws all j k low f = let below = letter_low laws f in p.none j k low (omega (arith, below, all)) f
+
 -- d is on the way from n to the root, and nothing is left below it
-pub Climbed : {N : Type 0} → (N → List ℕ → Type 0) → N → N → Type 0
-Climbed stands n d =
-    (w : List ℕ) × (u : List ℕ) × (r : List ℕ) × stands n w × stands d u × (w ≡ u ++ r) × Done stands w u
+pub record Climbed {N : Type 0} {tree : Shape N} (laws : Laws tree) (n d : N) : Type 0 where
+  pub start : List ℕ
+  pub here : List ℕ
+  pub rest : List ℕ
+  pub at_start : tree.stands n start
+  pub at_here : tree.stands d here
+  pub way : start ≡ here ++ rest
+  pub done : Done tree start here
 
 -- how many letters the word of a node has
-pub depth : {N : Type 0} {stands : N → List ℕ → Type 0} {wanted : N → Type 0} → Laws stands wanted → N → ℕ
+pub depth : {N : Type 0} {tree : Shape N} → Laws tree → N → ℕ
 depth laws n = elim (laws.settled n) [ yes p ↦ length p.0 | no none ↦ 0 ]
 
-pub record ClimbSteps {N : Type 0} {stands : N → List ℕ → Type 0} {wanted : N → Type 0} (laws : Laws stands wanted) (n : N) : Type 0 where
-  pub up : (d p : N) (i : ℕ) → Climbed stands n d → Further stands p i d → FirstChild stands p (i + 1) None → Climbed stands n p
-  pub found : (d p c : N) (i : ℕ) → Climbed stands n d → Further stands p i d → FirstChild stands p (i + 1) (Some c) → FirstOf stands (After stands n) (Some c)
-  pub ends : (d : N) → Climbed stands n d → Parent stands d None → FirstOf stands (After stands n) None
-  pub falls : (d p : N) (i : ℕ) → Further stands p i d → depth laws p < depth laws d
-
-module _ {N : Type 0} (stands : N → List ℕ → Type 0) (wanted : N → Type 0) (laws : Laws stands wanted) where
-  pub depth_is : (n : N) (w : List ℕ) → stands n w → depth laws n ≡ length w
+module _ {N : Type 0} {tree : Shape N} (laws : Laws tree) where
+  depth_is : (n : N) (w : List ℕ) → tree.stands n w → depth laws n ≡ length w
   unfolding depth
   depth_is n w h =
-      elim (laws.settled n) as (λ (d : Dec (Node stands n)). elim d [ yes p ↦ length p.0 | no none ↦ 0 ] ≡ length w) [
+      elim (laws.settled n) as (λ (d : Dec (Node tree n)). elim d [ yes p ↦ length p.0 | no none ↦ 0 ] ≡ length w) [
         | yes p ↦ ap length (laws.one_word n p.0 w p.1 h)
         | no none ↦ absurd (none (w, h))
       ]
 
-  pub climbing : (n : N) (w : List ℕ) → stands n w → FirstChild stands n 0 None → Climbed stands n n
-  unfolding Climbed
-  climbing n w here none = (w, w, [], here, here, sym (append-nil w), leaf stands wanted laws n w here none)
+  pub depth_falls : {d p : N} {i : ℕ} → Further tree p i d → depth laws p < depth laws d
+  depth_falls {d} {p} {i} f = omega (arith, depth_is p f.0 f.1, depth_is d (f.0 ++ (i ∷ [])) f.2, length-append f.0 (i ∷ []))
 
-  pub climb_steps : (n : N) → ClimbSteps laws n
-  unfolding Climbed Done
-  climb_steps n = record {
-    up = λ d p i c f none. let o = onto d p i c f in
-        (c.0, f.0, i ∷ c.2, c.3, f.1, o.0, climb stands wanted laws n c.0 c.3 p f.0 i f.1 c.2 o.0 o.1 none);
-    found = λ d p k i c f first. let o = onto d p i c f in
-        sibling stands wanted laws n c.0 c.3 p f.0 i f.1 c.2 o.0 o.1 k first;
-    ends = λ d c none m h.
-        let e = root d c.1 c.4 none in
-        c.6 m h.0.0
-        (subst (λ (x : List ℕ). stands m (x ++ h.0.0)) (sym e) h.0.1)
-        (subst (λ (x : List ℕ). c.0 ≺ x ++ h.0.0) (sym e) (before_words stands wanted laws n m c.0 h.0.0 c.3 h.0.1 h.1));
-    falls = λ d p i f.
-        omega (arith, depth_is p f.0 f.1, depth_is d (f.0 ++ (i ∷ [])) f.2, length-append f.0 (i ∷ []));
-  }
+  pub climbing : {n : N} → Node tree n → FirstChild tree n 0 None → Climbed laws n n
+  climbing {n} (w, here) none = record { start = w; here = w; rest = []; at_start = here; at_here = here; way = sym (append-nil w); done = leaf laws n w here none }
+
+module _ {N : Type 0} {tree : Shape N} {laws : Laws tree} {n d : N} (c : Climbed laws n d) where
+  module _ {p : N} {i : ℕ} (f : Further tree p i d) where
+    here_is : c.here ≡ f.0 ++ (i ∷ [])
+    here_is = laws.one_word d c.here (f.0 ++ (i ∷ [])) c.at_here f.2
+
+    on_way : c.start ≡ f.0 ++ (i ∷ c.rest)
+    on_way = c.way ∙ ap (λ (x : List ℕ). x ++ c.rest) here_is ∙ sym (cut f.0 i c.rest)
+
+    done_there : Done tree c.start (f.0 ++ (i ∷ []))
+    done_there = subst (Done tree c.start) here_is c.done
+
+    pub climbed_on : FirstChild tree p (i + 1) None → Climbed laws n p
+    climbed_on none = record {
+      start = c.start;
+      here = f.0;
+      rest = i ∷ c.rest;
+      at_start = c.at_start;
+      at_here = f.1;
+      way = on_way;
+      done = climb laws n c.start c.at_start p f.0 i f.1 c.rest on_way done_there none;
+    }
+
+    pub sibling_next : {k : N} → FirstChild tree p (i + 1) (Some k) → FirstOf tree (After tree n) (Some k)
+    sibling_next {k} first = sibling laws n c.start c.at_start p f.0 i f.1 c.rest on_way done_there k first
+
+  pub climbed_all : Parent tree d None → FirstOf tree (After tree n) None
+  unfolding Done
+  climbed_all none m h =
+      let e = root c.here c.at_here in
+      c.done m h.0.0
+      (subst (λ (x : List ℕ). tree.stands m (x ++ h.0.0)) (sym e) h.0.1)
+      (subst (λ (x : List ℕ). c.start ≺ x ++ h.0.0) (sym e) (before_words laws n m c.start h.0.0 c.at_start h.0.1 h.1))
     where
-      onto : (d p : N) (i : ℕ) (c : Climbed stands n d) (f : Further stands p i d) → (c.0 ≡ f.0 ++ (i ∷ c.2)) × Done stands c.0 (f.0 ++ (i ∷ []))
-      onto d p i c f =
-          let e : c.1 ≡ f.0 ++ (i ∷ []) = laws.one_word d c.1 (f.0 ++ (i ∷ [])) c.4 f.2 in (
-            c.5 ∙ ap (λ (x : List ℕ). x ++ c.2) e ∙ sym (cut f.0 i c.2),
-            subst (Done stands c.0) e c.6,
-          )
-
-      root : (d : N) (u : List ℕ) → stands d u → Parent stands d None → u ≡ []
-      root d u at none =
+      root : (u : List ℕ) → tree.stands d u → u ≡ []
+      root u at =
           ⊎_elim (λ e. e)
-          (λ s. let there : stands d (s.0 ++ (s.1 ∷ [])) = subst (stands d) s.2 at in
+          (λ s. let there : tree.stands d (s.0 ++ (s.1 ∷ [])) = subst (tree.stands d) s.2 at in
           let b = laws.beginnings d s.0 (s.1 ∷ []) there in
           absurd (none b.0 s.1 (s.0, b.1, there)))
           (snoc_cases u)

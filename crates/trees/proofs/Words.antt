@@ -4,7 +4,8 @@
 use Rattle.std.proofs.Common.{◌≡◌, ℕ, zero, suc, ◌+◌, ◌*◌, ◌^◌, ◌<◌, ◌≤◌, ◌⊎◌, List, [], ◌∷◌, ◌++◌, length, sym, refl, ap, ◌∙◌, ap₂, inl, inr, ⊎_elim, suc-le-suc, zero-le, le_of_suc-le-suc, not-suc-le-zero, mul-le-mul_right, suc-mul, pow-suc, arith, lit≤}
 use native.Mathlib.Decide.{ℕ_discrete, dec_lt}
 use native.Mathlib.Nat.{one-le-pow}
-use Rattle.std.specs.List.{AllByRecursion}
+use Rattle.std.specs.List.{All}
+use Rattle.std.proofs.lemmas.List.Elements.{All-head, All-tail}
 use Rattle.trees.specs.Words.{◌≺◌}
 
 pub ≺_irrefl : (w : List ℕ) → w ≺ w → ⊥
@@ -79,16 +80,16 @@ rank (suc d) (i ∷ w) = suc i * 31 ^ d + rank d w
 power : (d : ℕ) → 0 < 31 ^ d
 power d = one-le-pow d 31 (lit≤ tt)
 
-pub rank_bound : (d : ℕ) (w : List ℕ) → length w ≤ d → AllByRecursion (λ i. i < 30) w → rank d w < 31 ^ d
+pub rank_bound : (d : ℕ) (w : List ℕ) → length w ≤ d → All (λ i. i < 30) w → rank d w < 31 ^ d
 unfolding rank
 rank_bound zero w h a = power 0
 rank_bound (suc d) [] h a = power (suc d)
 rank_bound (suc d) (i ∷ w) h a =
-    let low : suc i * 31 ^ d ≤ 30 * 31 ^ d = mul-le-mul_right (31 ^ d) a.0 in
-    let rest : rank d w < 31 ^ d = rank_bound d w (le_of_suc-le-suc h) a.1 in
+    let low : suc i * 31 ^ d ≤ 30 * 31 ^ d = mul-le-mul_right (31 ^ d) (All-head (λ i. i < 30) i w a) in
+    let rest : rank d w < 31 ^ d = rank_bound d w (le_of_suc-le-suc h) (All-tail (λ i. i < 30) i w a) in
     omega (arith, pow-suc 31 d)
 
-pub rank_rises : (d : ℕ) (w v : List ℕ) → length w ≤ d → length v ≤ d → AllByRecursion (λ i. i < 30) w → AllByRecursion (λ i. i < 30) v → w ≺ v → rank d w < rank d v
+pub rank_rises : (d : ℕ) (w v : List ℕ) → length w ≤ d → length v ≤ d → All (λ i. i < 30) w → All (λ i. i < 30) v → w ≺ v → rank d w < rank d v
 unfolding rank ◌≺◌
 rank_rises zero [] [] hw hv a b l = absurd l
 rank_rises zero [] (j ∷ v) hw hv a b l = absurd (not-suc-le-zero hv)
@@ -101,9 +102,9 @@ rank_rises (suc d) (i ∷ w) [] hw hv a b l = absurd l
 rank_rises (suc d) (i ∷ w) (j ∷ v) hw hv a b l =
     ⊎_elim
     (λ (lt : i < j). let high : suc (suc i) * 31 ^ d ≤ suc j * 31 ^ d = mul-le-mul_right (31 ^ d) (suc-le-suc lt) in
-    let rest : rank d w < 31 ^ d = rank_bound d w (le_of_suc-le-suc hw) a.1 in
+    let rest : rank d w < 31 ^ d = rank_bound d w (le_of_suc-le-suc hw) (All-tail (λ i. i < 30) i w a) in
     omega (arith, suc-mul (suc i) (31 ^ d)))
     (λ (e : (i ≡ j) × (w ≺ v)). let same : suc i * 31 ^ d ≡ suc j * 31 ^ d = ap (λ (k : ℕ). suc k * 31 ^ d) e.0 in
-    let rest : rank d w < rank d v = rank_rises d w v (le_of_suc-le-suc hw) (le_of_suc-le-suc hv) a.1 b.1 e.1 in
+    let rest : rank d w < rank d v = rank_rises d w v (le_of_suc-le-suc hw) (le_of_suc-le-suc hv) (All-tail (λ i. i < 30) i w a) (All-tail (λ i. i < 30) j v b) e.1 in
     omega arith)
     l

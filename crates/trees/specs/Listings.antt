@@ -1,17 +1,13 @@
 -- Listings of the wanted nodes of a tree, and what they leave in a tray.
 -- Assumes nothing.
-use Rattle.std.specs.Prelude.{◌≡◌, ℕ, ◌-◌, ◌^◌, ◌≤◌, min, ◌⊎◌, ◌↔◌, List, [], ◌∷◌, ◌++◌, length, drop, IfSome, Some, Ok, Err, Decides, Option, Result}
-use Rattle.std.specs.List.{AllByRecursion}
+use Rattle.std.specs.Prelude.{◌≡◌, ℕ, ◌-◌, ◌^◌, ◌≤◌, min, ◌⊎◌, ◌↔◌, List, ◌++◌, length, drop, IfSome, Some, Ok, Err, IsTrue, Option, Result}
+use Rattle.std.specs.List.{All, AllPairs, Contains}
 use Rattle.refusals.specs.declared.Layer.TheVariants.{Listing as listing}
 use Rattle.refusals.specs.declared.Refusal.{Refusal}
 use Rattle.refusals.specs.Report.{report, says}
 use Rattle.trees.specs.declared.listed.Listed.{Listed}
+use Rattle.trees.specs.Trees.{Shape}
 use Rattle.trees.specs.Words.{◌≺◌}
-
--- x is one of the entries
-abbrev pub Among : {N : Type 0} → N → List N → Type 0
-Among x [] = ⊥
-Among x (y ∷ ys) = (x ≡ y) ⊎ Among x ys
 
 -- a tray has 1 to 65,536 places
 abbrev pub RightSize : ℕ → Type 0
@@ -22,35 +18,27 @@ abbrev pub WrongSize : ℕ → Refusal → Type 0
 WrongSize k e = (RightSize k → ⊥) × (report e ≡ says 20 listing 0)
 
 -- the node to go on after is refused: it is not wanted, and its number is told
-abbrev pub NotWanted : {N : Type 0} → (N → Type 0) → (N → ℕ) → Option N → Refusal → Type 0
-NotWanted {N} wanted number from e = (n : N) × (from ≡ Some n) × (wanted n → ⊥) × (report e ≡ says 21 listing (number n))
+abbrev pub NotWanted : {N : Type 0} → Shape N → (N → ℕ) → Option N → Refusal → Type 0
+NotWanted {N} tree number from e = (n : N) × (from ≡ Some n) × (tree.wanted n → ⊥) × (report e ≡ says 21 listing (number n))
 
--- `stands n w` says that the value n stands for the word w
-module _ {N : Type 0} (stands : N → List ℕ → Type 0) where
+module _ {N : Type 0} (tree : Shape N) where
   -- the node n comes before the node m in listing order
   abbrev pub Before : N → N → Type 0
-  Before n m = (w : List ℕ) × (v : List ℕ) × stands n w × stands m v × (w ≺ v)
+  Before n m = (w : List ℕ) × (v : List ℕ) × tree.stands n w × tree.stands m v × (w ≺ v)
 
-  -- each comes before all that follow it
-  abbrev pub Rising : List N → Type 0
-  Rising [] = Unit {0}
-  Rising (n ∷ ns) = AllByRecursion (Before n) ns × Rising ns
-
--- and some of the nodes are wanted
-module _ {N : Type 0} (stands : N → List ℕ → Type 0) (wanted : N → Type 0) where
   -- the node m is to be listed: it is wanted, and comes after the node from which the listing goes on, if there is one
   abbrev pub Due : Option N → N → Type 0
-  Due from m = wanted m × IfSome from (λ n. Before stands n m)
+  Due from m = tree.wanted m × IfSome from (λ n. Before n m)
 
   -- ns are the first nodes that are due, in listing order, and none is left out
   pub record Listing (from : Option N) (ns : List N) : Type 0 where
-    pub rising : Rising stands ns
-    pub due : AllByRecursion (Due from) ns
-    pub none_left_out : (m : N) → Due from m → Among m ns ⊎ AllByRecursion (λ n. Before stands n m) ns
+    pub rising : AllPairs Before ns
+    pub due : All (Due from) ns
+    pub none_left_out : (m : N) → Due from m → Contains ns m ⊎ All (λ n. Before n m) ns
 
   -- a node that is due comes after all of ns
   abbrev pub Left : Option N → List N → Type 0
-  Left from ns = (m : N) × Due from m × AllByRecursion (λ n. Before stands n m) ns
+  Left from ns = (m : N) × Due from m × All (λ n. Before n m) ns
 
   -- what a listing has written: the first nodes that are due, as many as there are places or as are due; all other places are as they were
   pub record Written (from : Option N) (before : List N) (told : Listed) (after : List N) : Type 0 where
@@ -60,20 +48,20 @@ module _ {N : Type 0} (stands : N → List ℕ → Type 0) (wanted : N → Type 
     pub fits : length entries ≤ length before
     pub places : after ≡ entries ++ drop (length entries) before
     pub until : Left from entries → length entries ≡ length before
-    pub more : Decides told.more (Left from entries)
+    pub more : IsTrue told.more ↔ Left from entries
 
   -- what a listing gives, and the places of its tray before and after; a node's number is told where the node is refused
   abbrev pub ListedInto : (N → ℕ) → Option N → List N → Result Listed Refusal → List N → Type 0
   ListedInto number from before (Ok told) after =
-      RightSize (length before) × IfSome from wanted × Written from before told after
+      RightSize (length before) × IfSome from tree.wanted × Written from before told after
   ListedInto number from before (Err e) after =
       (after ≡ before)
-      × (WrongSize (length before) e ⊎ (RightSize (length before) × NotWanted wanted number from e))
+      × (WrongSize (length before) e ⊎ (RightSize (length before) × NotWanted tree number from e))
 
   -- all wanted nodes, each once, in listing order, and nothing else
   pub record FullListing (ns : List N) : Type 0 where
-    pub rising : Rising stands ns
-    pub exactly : (n : N) → Among n ns ↔ wanted n
+    pub rising : AllPairs Before ns
+    pub exactly : (n : N) → Contains ns n ↔ tree.wanted n
 
   -- the number of the wanted nodes, or the largest that 64 bits can hold where there are more
   abbrev pub Counted : ℕ → Type 0

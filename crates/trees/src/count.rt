@@ -7,8 +7,7 @@ use crate::walk;
 
 // The number of wanted nodes, as far as 64 bits can hold it.
 pub fn count<T: Tree>(tree: &T) -> u64
-    requires { T.Tree.sound tree.now }
-    ensures { Counted (T.Tree.stands tree.now) (T.Tree.wanted tree.now) result }
+    ensures { Counted (T.shape tree.now) result }
 {
     let mut count = 0u64;
     let mut next = walk::first_due(tree, None);

@@ -1,6 +1,6 @@
 // What a listing tells.
 
-// How many entries were written, and whether more are left.
+// How many entries were written, and whether more are left. No `Option`, since every listing tells both.
 #[derive(Clone, Copy, PartialEq, Eq, Debug)]
 pub struct Listed {
     pub written: usize,

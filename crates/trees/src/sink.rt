@@ -1,7 +1,8 @@
 // What takes the entries of a full listing.
 ghost use Rattle.std.specs.Prelude.{List, OnOk};
 
-// A full listing hands its entries over tray by tray, so that it needs no more memory than a tray.
+// A full listing hands its entries over tray by tray, so that it needs no more memory than a tray. A trait, and no closure: what a
+// sink makes of the entries is named by a member, which contracts of full listings speak through.
 pub trait Sink<E> {
     type Error;
 

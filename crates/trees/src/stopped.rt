@@ -1,4 +1,7 @@
 // Why a full listing did not come to its end.
+ghost use Rattle.std.specs.Prelude.{◌≡◌};
+ghost use Rattle.trees.specs.declared.stopped.Stopped.TheVariants.{Refused};
+
 use refusals::Refusal;
 
 #[derive(Drop)]
@@ -11,6 +14,8 @@ pub enum Stopped<E> {
 }
 
 impl<E> From<Refusal> for Stopped<E> {
+    ghost from_gives = { λ refusal stopped. stopped ≡ Refused refusal };
+
     fn from(refusal: Refusal) -> Stopped<E> {
         Stopped::Refused(refusal)
     }

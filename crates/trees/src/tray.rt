@@ -42,8 +42,7 @@ impl<'a, E: Copy> Tray<'a, E> {
 
     // Writes the first wanted nodes of the tree, or the first ones after a given wanted node, until places or nodes end.
     pub fn list<T: Tree<Node = E>>(&mut self, tree: &T, after: Option<E>) -> Result<Listed, Refusal>
-        requires { T.Tree.sound tree.now }
-        ensures { ListedInto (T.Tree.stands tree.now) (T.Tree.wanted tree.now) T.Tree.number after self.old.places.now result self.new.places.now }
+        ensures { ListedInto (T.shape tree.now) T.number after self.old.places.now result self.new.places.now }
     {
         self.check_size()?;
         check_after(tree, after)?;
@@ -53,8 +52,7 @@ impl<'a, E: Copy> Tray<'a, E> {
 
 // Refuses to go on after what is not a wanted node.
 fn check_after<T: Tree>(tree: &T, after: Option<T::Node>) -> Result<(), Refusal>
-    requires { T.Tree.sound tree.now }
-    ensures { MatchResult result (λ _. IfSome after (T.Tree.wanted tree.now)) (NotWanted (T.Tree.wanted tree.now) T.Tree.number after) }
+    ensures { MatchResult result (λ _. IfSome after (T.shape tree.now).wanted) (NotWanted (T.shape tree.now) T.number after) }
 {
     match after {
         Some(node) if !tree.is_wanted(node) => Err(Refusal::NotWanted(T::number(node))),
@@ -64,22 +62,22 @@ fn check_after<T: Tree>(tree: &T, after: Option<T::Node>) -> Result<(), Refusal>
 
 // Writes the first nodes that are due into the places, until places or nodes end.
 fn fill<T: Tree>(tree: &T, after: Option<T::Node>, places: &mut [T::Node]) -> Listed
-    requires sound { T.Tree.sound tree.now }
-    requires node { IfSome after (IsNode (T.Tree.stands tree.now)) }
-    ensures { Written (T.Tree.stands tree.now) (T.Tree.wanted tree.now) after places.old result places.new }
+    requires { IfSome after (IsNode (T.shape tree.now)) }
+    ensures { Written (T.shape tree.now) after places.old result places.new }
 {
     let mut next = walk::first_due(tree, after);
-    let mut written = 0;
-    while written < places.len() {
+    for (written, place) in places.iter_mut().enumerate() {
         let Some(node) = next else {
-            break;
+            return Listed {
+                written,
+                more: false,
+            };
         };
-        places[written] = node;
-        written += 1;
+        *place = node;
         next = walk::next_wanted(tree, node);
     }
     Listed {
-        written,
+        written: places.len(),
         more: next.is_some(),
     }
 }

@@ -1,8 +1,9 @@
-// The walk, for every tree: from a node to the next in listing order.
+// The walk, for every tree: from a node to the next in listing order. Steps, and no iterator: how long an iterator goes on would rest
+// on the laws of the tree, which its members cannot cite.
 ghost use Rattle.std.specs.Prelude.{◌≤◌, IfSome, Some};
-ghost use Rattle.trees.specs.Listings.{Before, Due};
+ghost use Rattle.trees.specs.Listings.{Due};
 ghost use Rattle.trees.specs.Trees.{Node as IsNode};
-ghost use Rattle.trees.specs.Walking.{FirstChild, FirstOf};
+ghost use Rattle.trees.specs.Walking.{After, FirstChild, FirstOf};
 
 use crate::tree::Tree;
 use item_sets::Item;
@@ -12,9 +13,9 @@ const LETTERS: Item = 30;
 
 // The first node one letter further, of those with a letter not below `least`.
 fn first_child<T: Tree>(tree: &T, node: T::Node, least: Item) -> Option<T::Node>
-    requires { T.Tree.sound tree.now }
-    ensures { FirstChild (T.Tree.stands tree.now) node least result }
+    ensures { FirstChild (T.shape tree.now) node least result }
 {
+    // Not `find_map`: the proof that what it finds has the least letter did not close.
     for letter in least..LETTERS {
         if let Some(child) = tree.child(node, letter) {
             return Some(child);
@@ -25,9 +26,8 @@ fn first_child<T: Tree>(tree: &T, node: T::Node, least: Item) -> Option<T::Node>
 
 // The next node in listing order: the first child, or else a later child of a node on the way to the root.
 fn next_node<T: Tree>(tree: &T, node: T::Node) -> Option<T::Node>
-    requires sound { T.Tree.sound tree.now }
-    requires node { IsNode (T.Tree.stands tree.now) node }
-    ensures { FirstOf (T.Tree.stands tree.now) (λ m. IsNode (T.Tree.stands tree.now) m × Before (T.Tree.stands tree.now) node m) result }
+    requires { IsNode (T.shape tree.now) node }
+    ensures { FirstOf (T.shape tree.now) (After (T.shape tree.now) node) result }
 {
     if let Some(child) = first_child(tree, node, 0) {
         return Some(child);
@@ -44,9 +44,8 @@ fn next_node<T: Tree>(tree: &T, node: T::Node) -> Option<T::Node>
 
 // The next wanted node.
 pub(crate) fn next_wanted<T: Tree>(tree: &T, node: T::Node) -> Option<T::Node>
-    requires sound { T.Tree.sound tree.now }
-    requires node { IsNode (T.Tree.stands tree.now) node }
-    ensures { FirstOf (T.Tree.stands tree.now) (Due (T.Tree.stands tree.now) (T.Tree.wanted tree.now) (Some node)) result }
+    requires { IsNode (T.shape tree.now) node }
+    ensures { FirstOf (T.shape tree.now) (Due (T.shape tree.now) (Some node)) result }
 {
     let mut last = node;
     while let Some(next) = next_node(tree, last) {
@@ -60,9 +59,8 @@ pub(crate) fn next_wanted<T: Tree>(tree: &T, node: T::Node) -> Option<T::Node>
 
 // The first node that is due: of all wanted nodes, or of those after a given one.
 pub(crate) fn first_due<T: Tree>(tree: &T, after: Option<T::Node>) -> Option<T::Node>
-    requires sound { T.Tree.sound tree.now }
-    requires node { IfSome after (IsNode (T.Tree.stands tree.now)) }
-    ensures { FirstOf (T.Tree.stands tree.now) (Due (T.Tree.stands tree.now) (T.Tree.wanted tree.now) after) result }
+    requires { IfSome after (IsNode (T.shape tree.now)) }
+    ensures { FirstOf (T.shape tree.now) (Due (T.shape tree.now) after) result }
 {
     match after {
         Some(node) => next_wanted(tree, node),

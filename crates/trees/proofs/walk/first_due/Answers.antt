@@ -4,8 +4,8 @@ use Rattle.trees.proofs.walk.first_due.Goals as goal
 
 pub returns-then-is_wanted : goal.returns-then-is_wanted
 returns-then-is_wanted g c =
-    root_due _ _ (g.met.T.Tree.laws c.args.tree.now) _ c.in-None.is _ c.root-root.ensures (c.is_wanted.ensures.0 c.if-is_wanted.true)
+    root_due (g.met.T.Tree.laws c.args.tree.now) c.in-None.is c.root-root.ensures (c.is_wanted.ensures.0 c.if-is_wanted.true)
 
 pub returns-else-is_wanted : goal.returns-else-is_wanted
 returns-else-is_wanted g c =
-    after_root _ _ (g.met.T.Tree.laws c.args.tree.now) _ c.in-None.is _ c.root-root.ensures (not_from_Decides _ c.is_wanted.ensures c.if-is_wanted.false) _ c.next_wanted-else-is_wanted.ensures
+    after_root (g.met.T.Tree.laws c.args.tree.now) _ c.in-None.is c.root-root.ensures (not_from_Decides _ c.is_wanted.ensures c.if-is_wanted.false) c.next_wanted-else-is_wanted.ensures
