@@ -19,14 +19,13 @@ pub enum Answer {
     Fringes(ItemSet, ItemSet, ItemSet),
     SameState(ItemSet, ItemSet),
     DifferentStates(ItemSet, ItemSet),
-    Refused(Refusal),
 }
 
 impl Command {
-    pub fn ask<S: Space>(self, space: &S) -> Answer
+    pub fn ask<S: Space>(self, space: &S) -> Result<Answer, Refusal>
         ensures { Answers (S.Space.ground_set space.now) (S.Space.state space.now) self result }
     {
-        match self {
+        let answer = match self {
             Command::Items => Answer::Items(space.items()),
             Command::Tell(set) => {
                 if space.is_state(set) {
@@ -36,17 +35,20 @@ impl Command {
                 }
             }
             Command::Largest(set) => Answer::Largest(set, space.largest_inside(set)),
-            Command::Fringes(set) => match (space.inner_fringe(set), space.outer_fringe(set)) {
-                (Ok(inner), Ok(outer)) => Answer::Fringes(set, inner, outer),
-                (Err(refusal), _) => Answer::Refused(refusal),
-                (_, Err(refusal)) => Answer::Refused(refusal),
-            },
-            Command::Compare(a, b) => match space.same_by_fringes(a, b) {
-                Ok(true) => Answer::SameState(a, b),
-                Ok(false) => Answer::DifferentStates(a, b),
-                Err(refusal) => Answer::Refused(refusal),
-            },
-        }
+            Command::Fringes(set) => {
+                let inner = space.inner_fringe(set)?;
+                let outer = space.outer_fringe(set)?;
+                Answer::Fringes(set, inner, outer)
+            }
+            Command::Compare(a, b) => {
+                if space.same_by_fringes(a, b)? {
+                    Answer::SameState(a, b)
+                } else {
+                    Answer::DifferentStates(a, b)
+                }
+            }
+        };
+        Ok(answer)
     }
 }
 
@@ -55,24 +57,15 @@ impl fmt::Display for Answer {
 
     fn fmt<W: fmt::Write>(&self, f: &mut fmt::Formatter<W>) -> fmt::Result {
         match self {
-            Answer::Items(set) => write!(f, "items: {}", set.number),
-            Answer::State(set) => write!(f, "{}: state", set.number),
-            Answer::NoState(set) => write!(f, "{}: no state", set.number),
-            Answer::Largest(set, largest) => {
-                write!(f, "largest inside {}: {}", set.number, largest.number)
-            }
+            Answer::Items(set) => write!(f, "items: {set}"),
+            Answer::State(set) => write!(f, "{set}: state"),
+            Answer::NoState(set) => write!(f, "{set}: no state"),
+            Answer::Largest(set, largest) => write!(f, "largest inside {set}: {largest}"),
             Answer::Fringes(set, inner, outer) => {
-                write!(
-                    f,
-                    "fringes of {}: inner {}, outer {}",
-                    set.number, inner.number, outer.number
-                )
+                write!(f, "fringes of {set}: inner {inner}, outer {outer}")
             }
-            Answer::SameState(a, b) => write!(f, "{} and {}: same state", a.number, b.number),
-            Answer::DifferentStates(a, b) => {
-                write!(f, "{} and {}: different states", a.number, b.number)
-            }
-            Answer::Refused(refusal) => write!(f, "{refusal}"),
+            Answer::SameState(a, b) => write!(f, "{a} and {b}: same state"),
+            Answer::DifferentStates(a, b) => write!(f, "{a} and {b}: different states"),
         }
     }
 }

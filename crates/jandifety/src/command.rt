@@ -1,6 +1,7 @@
 // What can be asked of a table, and how it is spelled.
 use item_sets::ItemSet;
 use std::fmt;
+use std::num::ParseIntError;
 use std::str::FromStr;
 
 #[derive(Clone, Copy)]
@@ -43,21 +44,20 @@ impl FromStr for Command {
         let mut words = line.split_whitespace();
         match (words.next(), words.next(), words.next(), words.next()) {
             (Some("items"), None, _, _) => Ok(Command::Items),
-            (Some("tell"), Some(set), None, _) => Ok(Command::Tell(set_number(set)?)),
-            (Some("largest"), Some(set), None, _) => Ok(Command::Largest(set_number(set)?)),
-            (Some("fringes"), Some(set), None, _) => Ok(Command::Fringes(set_number(set)?)),
+            (Some("tell"), Some(set), None, _) => Ok(Command::Tell(set.parse()?)),
+            (Some("largest"), Some(set), None, _) => Ok(Command::Largest(set.parse()?)),
+            (Some("fringes"), Some(set), None, _) => Ok(Command::Fringes(set.parse()?)),
             (Some("compare"), Some(a), Some(b), None) => Ok(Command::Compare(
-                set_number(a)?,
-                set_number(b)?,
+                a.parse()?,
+                b.parse()?,
             )),
             _ => Err(Expected::Command),
         }
     }
 }
 
-fn set_number(word: &str) -> Result<ItemSet, Expected> {
-    match word.parse::<u32>() {
-        Ok(number) => Ok(ItemSet { number }),
-        Err(_) => Err(Expected::SetNumber),
+impl From<ParseIntError> for Expected {
+    fn from(_: ParseIntError) -> Expected {
+        Expected::SetNumber
     }
 }

@@ -3,18 +3,18 @@
 
 mod answer;
 mod command;
-mod table;
+mod no_answer;
 
 use answer::Answer;
 use clauses::ClauseTable;
-use command::{Command, Expected};
+use command::Command;
+use no_answer::NoAnswer;
 use orders::OrderTable;
-use records::Kind;
+use records::{Kind, Table};
 use spaces::Space;
 use std::io::{BufRead, BufReader};
 use std::process::ExitCode;
 use std::{env, fs, io};
-use table::Table;
 
 fn main(rt: HostRuntime) -> anyhow::Result<ExitCode> {
     let mut args = env::args(&rt)?;
@@ -43,53 +43,61 @@ fn main(rt: HostRuntime) -> anyhow::Result<ExitCode> {
 }
 
 // Loads the record, and answers the command, or where there is none the lines of standard input.
-fn run<T: Table + Drop>(rt: &HostRuntime, bytes: &[u8], command: &str) -> anyhow::Result<ExitCode> {
-    let table = match T::loaded(bytes) {
+fn run<T: Table + Space>(
+    rt: &HostRuntime,
+    bytes: &[u8],
+    command: &str,
+) -> anyhow::Result<ExitCode> {
+    let table = match T::read(bytes) {
         Ok(table) => table,
         Err(refusal) => {
             rt.println(refusal)?;
             return Ok(ExitCode::FAILURE);
         }
     };
-    let name = T::NAME;
+    let kind = T::KIND;
     let items = table.items().size();
-    let rows = table.rows();
-    println!(rt; "table: {name}, {items} items, {rows} rows")?;
+    let rows = table.row_count();
+    println!(rt; "table: {kind}, {items} items, {rows} rows")?;
     if command.is_empty() {
         serve(rt, &table)?;
         return Ok(ExitCode::SUCCESS);
     }
-    match respond(rt, &table, command.as_bytes())? {
-        true => Ok(ExitCode::SUCCESS),
-        false => Ok(ExitCode::FAILURE),
+    if respond(rt, &table, command.as_bytes())? {
+        Ok(ExitCode::SUCCESS)
+    } else {
+        Ok(ExitCode::FAILURE)
     }
 }
 
 // Answers each line of standard input.
 fn serve<S: Space>(rt: &HostRuntime, space: &S) -> io::Result<()> {
     for line in BufReader::new(rt.alloc(), rt.stdin())?.split(rt.alloc(), b'\n') {
-        let line = line?;
-        let _answered = respond(rt, space, line.as_slice())?;
+        respond(rt, space, line?.as_slice())?;
     }
     Ok(())
 }
 
-// Answers one line, and tells whether it was a command that was not refused. A blank line asks nothing.
+// Prints what is answered to one line, and tells whether it was a command that was not refused. A blank line asks nothing.
 fn respond<S: Space>(rt: &HostRuntime, space: &S, line: &[u8]) -> io::Result<bool> {
-    let command = match std::str::from_utf8(line) {
-        Ok(text) if text.trim().is_empty() => return Ok(true),
-        Ok(text) => text.parse::<Command>(),
-        Err(_) => Err(Expected::Command),
-    };
-    match command {
-        Ok(command) => {
-            let answer = command.ask(space);
+    match answer_to(space, line) {
+        Ok(None) => Ok(true),
+        Ok(Some(answer)) => {
             rt.println(answer)?;
-            Ok(!matches!(answer, Answer::Refused(_)))
+            Ok(true)
         }
-        Err(expected) => {
-            rt.println(expected)?;
+        Err(reason) => {
+            rt.println(reason)?;
             Ok(false)
         }
     }
+}
+
+fn answer_to<S: Space>(space: &S, line: &[u8]) -> Result<Option<Answer>, NoAnswer> {
+    let text = std::str::from_utf8(line)?;
+    if text.trim().is_empty() {
+        return Ok(None);
+    }
+    let command = text.parse::<Command>()?;
+    Ok(Some(command.ask(space)?))
 }
