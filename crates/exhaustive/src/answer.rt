@@ -1,7 +1,5 @@
-// What can be asked of a table, and what can be answered.
-ghost use Rattle.std.specs.Prelude.{◌≡◌};
-ghost use Rattle.exhaustive.specs.declared.answer.Layer.TheVariants.{Record};
-
+// What can be asked of a table, and what comes of it.
+use refusals::Refusal;
 use std::fmt;
 
 #[derive(Clone, Copy)]
@@ -19,35 +17,11 @@ pub enum Answer {
     Loaded,
     Set(u32),
     Truth(bool),
-    Refused(Refused),
 }
 
-#[derive(Clone, Copy, PartialEq, Eq)]
-pub enum Layer {
-    Record,
-    Table,
-    Listing,
-}
-
-// A refusal by what it says: its number, its layer and its place.
-#[derive(Clone, Copy, PartialEq, Eq)]
-pub struct Refused {
-    pub number: u8,
-    pub layer: Layer,
-    pub place: u64,
-}
-
-impl Refused {
-    pub fn record(number: u8, place: u64) -> Refused
-        ensures { (result.number ≡ number) × (result.layer ≡ Record) × (result.place ≡ place) }
-    {
-        Refused {
-            number,
-            layer: Layer::Record,
-            place,
-        }
-    }
-}
+// An answer or a refusal, to be printed.
+#[derive(Clone, Copy)]
+pub struct Reply(pub Result<Answer, Refusal>);
 
 impl fmt::Display for Question {
     fn fmt<W: fmt::Write>(&self, f: &mut fmt::Formatter<W>) -> fmt::Result {
@@ -68,20 +42,15 @@ impl fmt::Display for Answer {
             Answer::Loaded => write!(f, "loaded"),
             Answer::Set(set) => write!(f, "{set}"),
             Answer::Truth(truth) => write!(f, "{truth}"),
-            Answer::Refused(refused) => write!(f, "{refused}"),
         }
     }
 }
 
-impl fmt::Display for Refused {
+impl fmt::Display for Reply {
     fn fmt<W: fmt::Write>(&self, f: &mut fmt::Formatter<W>) -> fmt::Result {
-        let number = self.number;
-        let layer = match self.layer {
-            Layer::Record => "record",
-            Layer::Table => "table",
-            Layer::Listing => "listing",
-        };
-        let place = self.place;
-        write!(f, "refused {number} {layer} {place}")
+        match self.0 {
+            Ok(answer) => write!(f, "{answer}"),
+            Err(refusal) => write!(f, "{refusal}"),
+        }
     }
 }

@@ -5,22 +5,20 @@ use spaces::Space;
 // Tells the items and the states as the space does. The other methods are those that the interface provides, also where
 // the space has its own.
 #[derive(Drop)]
-pub struct General<S> {
-    pub space: S,
-}
+pub struct General<'a, S>(pub &'a S);
 
-impl<S: Space> Space for General<S> {
-    ghost ground_set = { λ t. S.Space.ground_set t.space };
+impl<S: Space> Space for General<'_, S> {
+    ghost ground_set = { λ t. S.Space.ground_set t.0.now };
 
-    ghost state = { λ t. S.Space.state t.space };
+    ghost state = { λ t. S.Space.state t.0.now };
 
-    ghost laws = { λ t. S.Space.laws t.space };
+    ghost laws = { λ t. S.Space.laws t.0.now };
 
     fn items(&self) -> ItemSet {
-        self.space.items()
+        self.0.items()
     }
 
     fn is_state(&self, set: ItemSet) -> bool {
-        self.space.is_state(set)
+        self.0.is_state(set)
     }
 }

@@ -2,7 +2,8 @@
 ghost use Rattle.std.specs.Prelude.{◌≡◌, ◌<◌};
 ghost use Rattle.std.specs.Iterator.{at_most};
 
-use crate::trial::Kind;
+use crate::trial::{kind_byte, row_len};
+use records::Kind;
 use std::alloc::{AllocError, Global};
 
 // Some records of one kind.
@@ -20,7 +21,7 @@ struct Random {
     state: u64,
 }
 
-// What is written after the rows.
+// What is written after the rows. Unlike a trailer of the library it may be wrong, and so has every field.
 #[derive(Clone, Copy)]
 struct Trailer {
     code: u8,
@@ -62,9 +63,10 @@ impl Random {
     // A record of one to five items, more often of many.
     fn record(&mut self, heap: Global, kind: Kind) -> Result<Vec<u8>, AllocError> {
         let items = self.between(1, 5).max(self.between(1, 5));
-        let (mut record, row_len) = match kind {
-            Kind::Clauses => (self.clauses(heap, items)?, 5),
-            Kind::Orders => (self.orders(heap, items)?, items),
+        // A `match`, as in the trial.
+        let mut record = match kind {
+            Kind::Clauses => self.clauses(heap, items)?,
+            Kind::Orders => self.orders(heap, items)?,
         };
         if self.below(6) == 0 {
             for _ in 0..self.between(1, 3) {
@@ -72,12 +74,12 @@ impl Random {
             }
         }
         // There are far fewer than 2^16 bytes, so nothing is cut off.
-        let distance = (record.len() & 0xffff) as u32;
+        let distance = (record.len() & 0xffff) as u16;
         let mut trailer = Trailer {
-            code: kind.code(),
+            code: kind_byte(kind),
             items,
-            rows: (distance / u32::from(row_len).max(1) & 0xffff) as u16,
-            distance,
+            rows: distance / u16::from(row_len(kind, items)).max(1),
+            distance: u32::from(distance),
         };
         if self.below(6) == 0 {
             for _ in 0..self.between(1, 2) {

@@ -6,20 +6,21 @@ mod general;
 mod generator;
 mod trial;
 
-ghost use Rattle.std.specs.Prelude.{◌≡◌, ◌<◌, ◌≤◌, false, Ok, Err, Decides, ◌≢◌};
+ghost use Rattle.std.specs.Prelude.{◌≡◌, ◌+◌, ◌-◌, ◌^◌, ◌≤◌, ◌↔◌, ◌≢◌, min, false, Ok, IsTrue, MatchResult};
 
-use answer::{Answer, Layer, Question, Refused};
+use answer::{Answer, Question, Reply};
 use clauses::ClauseTable;
 use general::General;
 use generator::Generator;
 use item_sets::ItemSet;
 use orders::OrderTable;
+use records::Table;
 use refusals::Refusal;
 use spaces::Space;
 use std::alloc::Global;
 use std::process::ExitCode;
 use std::{fmt, io};
-use trial::{Kind, Trial};
+use trial::Trial;
 
 // How many records of each kind are made.
 const RECORDS: u32 = 6000;
@@ -45,7 +46,7 @@ fn main(rt: HostRuntime) -> anyhow::Result<ExitCode> {
 }
 
 // Compares a fresh table, the table of a record that is given, and those of the records that are made.
-fn survey_kind<T: Table + Drop>(
+fn survey_kind<T: Table + Space>(
     rt: &HostRuntime,
     examiner: &mut Examiner<'_>,
     given: &[u8],
@@ -60,81 +61,52 @@ fn survey_kind<T: Table + Drop>(
 }
 
 fn report_tables(rt: &HostRuntime, clauses: Counts, orders: Counts) -> io::Result<()> {
-    let (c, o) = (clauses.records, orders.records);
-    let (c_refused, o_refused) = (clauses.refused, orders.refused);
-    println!(rt; "tables: {c} clauses ({c_refused} refused), {o} orders ({o_refused} refused)")?;
-    for number in 1..9 {
-        let (c, o) = (clauses.refused_with[number], orders.refused_with[number]);
-        if c > 0 || o > 0 {
+    println!(rt;
+        "tables: {} clauses ({} refused), {} orders ({} refused)",
+        clauses.records, clauses.refused, orders.records, orders.refused
+    )?;
+    let refused = clauses.refused_with.iter().zip(&orders.refused_with);
+    for (number, (c, o)) in refused.enumerate() {
+        if *c > 0 || *o > 0 {
             println!(rt; "refused with {number}: {c} clauses, {o} orders")?;
         }
     }
-    let (c, o) = (clauses.states, orders.states);
-    println!(rt; "states found by trial: {c} of clauses, {o} of orders")
+    println!(rt;
+        "states found by trial: {} of clauses, {} of orders",
+        clauses.states, orders.states
+    )
 }
 
 fn report_answers(rt: &HostRuntime, tally: Tally) -> io::Result<()> {
-    let items = tally.items;
-    let states = tally.states;
-    let largest = tally.largest;
-    let fringes = tally.fringes;
-    let pairs = tally.pairs;
-    let differences = tally.differences;
-    println!(rt; "item sets: {items}")?;
-    println!(rt; "sets judged: {states}")?;
-    println!(rt; "largest states: {largest}")?;
-    println!(rt; "fringes: {fringes}")?;
-    println!(rt; "comparisons by fringes: {pairs}")?;
-    println!(rt; "differences: {differences}")
+    println!(rt; "item sets: {}", tally.items)?;
+    println!(rt; "sets judged: {}", tally.states)?;
+    println!(rt; "largest states: {}", tally.largest)?;
+    println!(rt; "fringes: {}", tally.fringes)?;
+    println!(rt; "comparisons by fringes: {}", tally.pairs)?;
+    println!(rt; "differences: {}", tally.differences)
 }
 
 impl Question {
     // What a space of the library answers.
-    fn ask<S: Space>(self, space: &S) -> Answer {
-        match self {
+    fn ask<S: Space>(self, space: &S) -> Result<Answer, Refusal> {
+        let answer = match self {
             Question::Items => Answer::Set(space.items().number),
             Question::IsState(number) => Answer::Truth(space.is_state(ItemSet { number })),
-            Question::LargestInside(number) => Answer::Set(
-                space.largest_inside(ItemSet { number }).number,
-            ),
-            Question::InnerFringe(number) => of_fringe(space.inner_fringe(ItemSet { number })),
-            Question::OuterFringe(number) => of_fringe(space.outer_fringe(ItemSet { number })),
-            Question::SameByFringes(a, b) => {
-                match space.same_by_fringes(ItemSet { number: a }, ItemSet { number: b }) {
-                    Ok(same) => Answer::Truth(same),
-                    Err(refusal) => of_refusal(refusal),
-                }
+            Question::LargestInside(number) => {
+                Answer::Set(space.largest_inside(ItemSet { number }).number)
             }
-        }
+            Question::InnerFringe(number) => {
+                Answer::Set(space.inner_fringe(ItemSet { number })?.number)
+            }
+            Question::OuterFringe(number) => {
+                Answer::Set(space.outer_fringe(ItemSet { number })?.number)
+            }
+            Question::SameByFringes(a, b) => {
+                Answer::Truth(space.same_by_fringes(ItemSet { number: a }, ItemSet { number: b })?)
+            }
+        };
+        Ok(answer)
     }
-}
-
-// What a loader of the library answers.
-fn of_load(loaded: Result<(), Refusal>) -> Answer {
-    match loaded {
-        Ok(()) => Answer::Loaded,
-        Err(refusal) => of_refusal(refusal),
-    }
-}
-
-fn of_fringe(fringe: Result<ItemSet, Refusal>) -> Answer {
-    match fringe {
-        Ok(set) => Answer::Set(set.number),
-        Err(refusal) => of_refusal(refusal),
-    }
-}
-
-fn of_refusal(refusal: Refusal) -> Answer {
-    let layer = match refusal.layer() {
-        refusals::Layer::Record => Layer::Record,
-        refusals::Layer::Table => Layer::Table,
-        refusals::Layer::Listing => Layer::Listing,
-    };
-    Answer::Refused(Refused {
-        number: refusal.number(),
-        layer,
-        place: refusal.place(),
-    })
 }
 
 // So many differences are told; the others are only counted.
@@ -172,11 +144,22 @@ enum Way {
     AfterRefusal,
 }
 
+impl fmt::Display for Way {
+    fn fmt<W: fmt::Write>(&self, f: &mut fmt::Formatter<W>) -> fmt::Result {
+        f.write_str(match self {
+            Way::OwnBodies => "by its own bodies",
+            Way::GeneralBodies => "by the general bodies",
+            Way::AfterRefusal => "after a refusal",
+        })
+    }
+}
+
 // A table, by the record that it came from, with what the trial found of it.
-#[derive(Clone, Copy)]
-struct Subject<'a> {
+#[derive(Drop)]
+struct Subject<'a, S> {
     record: &'a [u8],
     trial: &'a Trial,
+    space: &'a S,
     way: Way,
 }
 
@@ -195,46 +178,36 @@ impl<'a> Examiner<'a> {
     }
 
     // Asks everything about every set of the table's items and two more, and about every pair of sets of its items.
-    fn compare<S: Space>(&mut self, subject: Subject<'_>, space: &S) -> io::Result<()> {
-        self.put(subject, space, Question::Items)?;
+    fn compare<S: Space>(&mut self, subject: &Subject<'_, S>) -> io::Result<()> {
+        self.put(subject, Question::Items)?;
         for set in 0..subject.trial.wider_sets() {
-            self.compare_set(subject, space, set)?;
+            self.compare_set(subject, set)?;
         }
-        self.compare_set(subject, space, u32::MAX)?;
+        self.compare_set(subject, u32::MAX)?;
         for a in 0..subject.trial.sets() {
             for b in 0..subject.trial.sets() {
-                self.put(subject, space, Question::SameByFringes(a, b))?;
+                self.put(subject, Question::SameByFringes(a, b))?;
             }
         }
         Ok(())
     }
 
-    fn compare_set<S: Space>(
-        &mut self,
-        subject: Subject<'_>,
-        space: &S,
-        set: u32,
-    ) -> io::Result<()> {
-        self.put(subject, space, Question::IsState(set))?;
-        self.put(subject, space, Question::LargestInside(set))?;
-        self.put(subject, space, Question::InnerFringe(set))?;
-        self.put(subject, space, Question::OuterFringe(set))
+    fn compare_set<S: Space>(&mut self, subject: &Subject<'_, S>, set: u32) -> io::Result<()> {
+        self.put(subject, Question::IsState(set))?;
+        self.put(subject, Question::LargestInside(set))?;
+        self.put(subject, Question::InnerFringe(set))?;
+        self.put(subject, Question::OuterFringe(set))
     }
 
-    fn put<S: Space>(
-        &mut self,
-        subject: Subject<'_>,
-        space: &S,
-        question: Question,
-    ) -> io::Result<()> {
+    fn put<S: Space>(&mut self, subject: &Subject<'_, S>, question: Question) -> io::Result<()> {
         self.tally.count(question);
-        let told = question.ask(space);
+        let told = question.ask(subject.space);
         let expected = subject.trial.answer(question);
         let asked = Asked {
             question,
             way: subject.way,
         };
-        let _agreed = self.agree(subject.record, asked, told, expected)?;
+        self.agree(subject.record, asked, told, expected)?;
         Ok(())
     }
 
@@ -243,20 +216,22 @@ impl<'a> Examiner<'a> {
         &mut self,
         record: &[u8],
         asked: Q,
-        told: Answer,
-        expected: Answer,
+        told: Result<Answer, Refusal>,
+        expected: Result<Answer, Refusal>,
     ) -> io::Result<bool>
-        ensures agreed { elim result [ Ok same ↦ Decides same (told ≡ expected) | Err _ ↦ (told ≢ expected) ] }
-        ensures counted { result ≡ Ok false → 0 < self.new.tally.differences }
+        ensures agreed { MatchResult result (λ same. IsTrue same ↔ (told ≡ expected)) (λ _. told ≢ expected) }
+        ensures counted { result ≡ Ok false → self.new.tally.differences ≡ min (self.old.tally.differences + 1) (2 ^ 64 - 1) }
         ensures keeps { self.old.tally.differences ≤ self.new.tally.differences }
     {
         if told == expected {
             return Ok(true);
         }
         if self.tally.differences < MOST_TOLD {
-            let table = Hex(record);
             println!(self.rt;
-                "difference: table {table}, {asked}: told {told}, expected {expected}"
+                "difference: table {}, {asked}: told {}, expected {}",
+                Hex(record),
+                Reply(told),
+                Reply(expected)
             )?;
         }
         self.tally.differences = self.tally.differences.saturating_add(1);
@@ -272,13 +247,7 @@ struct Asked {
 
 impl fmt::Display for Asked {
     fn fmt<W: fmt::Write>(&self, f: &mut fmt::Formatter<W>) -> fmt::Result {
-        let question = self.question;
-        let way = match self.way {
-            Way::OwnBodies => "by its own bodies",
-            Way::GeneralBodies => "by the general bodies",
-            Way::AfterRefusal => "after a refusal",
-        };
-        write!(f, "{question} {way}")
+        write!(f, "{} {}", self.question, self.way)
     }
 }
 
@@ -297,42 +266,8 @@ impl fmt::Display for Hex<'_> {
     }
 }
 
-// A kind of table of the library.
-trait Table: Space {
-    const KIND: Kind;
-
-    fn make() -> Self
-    where
-        Self: Sized;
-
-    fn attempt(&mut self, record: &[u8]) -> Answer;
-}
-
-impl Table for ClauseTable {
-    const KIND: Kind = Kind::Clauses;
-
-    fn make() -> ClauseTable {
-        ClauseTable::fresh()
-    }
-
-    fn attempt(&mut self, record: &[u8]) -> Answer {
-        of_load(self.load(record))
-    }
-}
-
-impl Table for OrderTable {
-    const KIND: Kind = Kind::Orders;
-
-    fn make() -> OrderTable {
-        OrderTable::fresh()
-    }
-
-    fn attempt(&mut self, record: &[u8]) -> Answer {
-        of_load(self.load(record))
-    }
-}
-
-// How many records there were, how many of them were refused with each number, and how many states the others have.
+// How many records there were, how many of them were refused, how many with each number, and how many states the others
+// have. No record is refused with a number above 8, so an array holds the counts by their numbers.
 #[derive(Clone, Copy, Default)]
 struct Counts {
     records: u64,
@@ -342,13 +277,13 @@ struct Counts {
 }
 
 impl Counts {
-    fn count(&mut self, expected: Result<Trial, Refused>) {
+    fn count(&mut self, found: Result<Trial, Refusal>) {
         self.records = self.records.saturating_add(1);
-        match expected {
+        match found {
             Ok(trial) => self.states = self.states.saturating_add(states_of(&trial)),
-            Err(refused) => {
+            Err(refusal) => {
                 self.refused = self.refused.saturating_add(1);
-                if let Some(count) = self.refused_with.get_mut(usize::from(refused.number)) {
+                if let Some(count) = self.refused_with.get_mut(usize::from(refusal.number())) {
                     *count = count.saturating_add(1);
                 }
             }
@@ -357,28 +292,24 @@ impl Counts {
 }
 
 fn states_of(trial: &Trial) -> u64 {
-    let mut states = 0u64;
-    for set in 0..trial.sets() {
-        if trial.answer(Question::IsState(set)) == Answer::Truth(true) {
-            states = states.saturating_add(1);
-        }
-    }
-    states
+    (0..trial.sets())
+        .filter(|&set| trial.answer(Question::IsState(set)) == Ok(Answer::Truth(true)))
+        .count() as u64
 }
 
 // The table as it is now, the record that it came from, and what the trial says of it. A fresh table came from none.
 #[derive(Drop)]
 struct Survey<T> {
-    held: General<T>,
+    table: T,
     record: Vec<u8>,
     trial: Trial,
     counts: Counts,
 }
 
-impl<T: Table + Drop> Survey<T> {
+impl<T: Table + Space> Survey<T> {
     fn start(heap: Global) -> Survey<T> {
         Survey {
-            held: General { space: T::make() },
+            table: T::fresh(),
             record: Vec::new(heap),
             trial: Trial::of_one_item(),
             counts: Counts::default(),
@@ -389,12 +320,14 @@ impl<T: Table + Drop> Survey<T> {
     fn load(&mut self, examiner: &mut Examiner<'_>, record: Vec<u8>) -> io::Result<()> {
         let found = Trial::of(T::KIND, record.as_slice());
         self.counts.count(found);
-        let expected = match found {
-            Ok(_) => Answer::Loaded,
-            Err(refused) => Answer::Refused(refused),
-        };
-        let told = self.held.space.attempt(record.as_slice());
-        if !examiner.agree(record.as_slice(), "load", told, expected)? {
+        let told = self.table.load(record.as_slice());
+        let agreed = examiner.agree(
+            record.as_slice(),
+            "load",
+            told.map(|_| Answer::Loaded),
+            found.map(|_| Answer::Loaded),
+        )?;
+        if !agreed {
             self.restart();
             return Ok(());
         }
@@ -410,26 +343,27 @@ impl<T: Table + Drop> Survey<T> {
 
     // Where it is in doubt which table is there, a fresh one is.
     fn restart(&mut self) {
-        self.held = General { space: T::make() };
+        self.table = T::fresh();
         self.record.clear();
         self.trial = Trial::of_one_item();
     }
 
     // Compares the table by the bodies that its kind has, and by those that the interface provides.
     fn compare(&self, examiner: &mut Examiner<'_>) -> io::Result<()> {
-        examiner.compare(self.subject(Way::OwnBodies), &self.held.space)?;
-        examiner.compare(self.subject(Way::GeneralBodies), &self.held)
+        examiner.compare(&self.subject(&self.table, Way::OwnBodies))?;
+        examiner.compare(&self.subject(&General(&self.table), Way::GeneralBodies))
     }
 
     // Compares the table that a refusal has left.
     fn compare_left(&self, examiner: &mut Examiner<'_>) -> io::Result<()> {
-        examiner.compare(self.subject(Way::AfterRefusal), &self.held.space)
+        examiner.compare(&self.subject(&self.table, Way::AfterRefusal))
     }
 
-    fn subject(&self, way: Way) -> Subject<'_> {
+    fn subject<'a, S>(&'a self, space: &'a S, way: Way) -> Subject<'a, S> {
         Subject {
             record: self.record.as_slice(),
             trial: &self.trial,
+            space,
             way,
         }
     }

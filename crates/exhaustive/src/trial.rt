@@ -1,13 +1,18 @@
 // The rules of tables, written out plainly: which records are refused, and with what; the states of a small table, found by
-// plain trial of all subsets; and what follows from them.
-ghost use Rattle.std.specs.Prelude.{◌≡◌, ℕ, ◌+◌, ◌*◌, ◌^◌, ◌<◌, ◌≤◌, false, length, is_ok, slice_index};
+// plain trial of all subsets; and what follows from them. The types are the library's, but the rules are stated here anew
+// and call none of its functions: a mistake that both had from one place would show as no difference.
+ghost use Rattle.std.specs.Prelude.{◌≡◌, ℕ, ◌+◌, ◌^◌, ◌<◌, ◌≤◌, false, length, Ok, Err, IfOk};
 ghost use Rattle.exhaustive.specs.declared.answer.Answer.TheVariants.{Truth};
 ghost use Rattle.exhaustive.specs.declared.answer.Question.TheVariants.{IsState};
-ghost use Rattle.exhaustive.specs.declared.trial.Kind.TheVariants.{Clauses, Orders};
+ghost use Rattle.records.specs.declared.Kind.TheVariants.{Clauses, Orders};
+ghost use Rattle.refusals.specs.declared.Refusal.TheVariants.{ShortRecord};
 
-use crate::answer::{Answer, Layer, Question, Refused};
+use crate::answer::{Answer, Question};
+use records::{Kind, Trailer};
+use refusals::Refusal;
 
-// Which of the sets of at most five items are states.
+// Which of the sets of at most five items are states: a flag for each set number. A collection of sets would be no plainer, with
+// a `?` at each that is put in.
 #[derive(Clone, Copy)]
 pub struct Trial {
     items: u8,
@@ -24,63 +29,62 @@ impl Trial {
         trial
     }
 
-    // The family of the table that a record spells, or the refusal of the record.
-    pub fn of(kind: Kind, bytes: &[u8]) -> Result<Trial, Refused>
-        ensures { length bytes.now < 8 → is_ok result ≡ false }
+    // The family of the table that a record spells, or the refusal of the record: first its trailer is judged, then its rows,
+    // and then whether every item lies in a state.
+    pub fn of(kind: Kind, bytes: &[u8]) -> Result<Trial, Refusal>
+        ensures { length bytes.now < 8 → result ≡ Err (ShortRecord (length bytes.now)) }
     {
-        let shape = kind.judge(bytes)?;
+        let (rows, Trailer { items, .. }) = read_trailer(kind, bytes)?;
+        // A `match`, and no trait with a type for each kind: there are two, and each arm is one call.
         let trial = match kind {
-            Kind::Clauses => Trial::by_additions(bytes, shape),
-            Kind::Orders => Trial::by_unions(bytes, shape),
+            Kind::Clauses => Trial::of_clauses(rows.as_chunks().0, items)?,
+            Kind::Orders => Trial::of_orders(rows, items)?,
         };
         let reached = trial.largest_inside(u32::MAX);
-        for item in 0..shape.items {
-            if reached & bit(item) == 0 {
-                return Err(Refused {
-                    number: 8,
-                    layer: Layer::Table,
-                    place: u64::from(item),
-                });
+        match (0..items).find(|&item| reached & bit(item) == 0) {
+            Some(item) => Err(Refusal::UnbuildableItem(u64::from(item))),
+            None => Ok(trial),
+        }
+    }
+
+    // From the empty set on, each item is added to each set that it can be added to. A set that is made so has a larger
+    // number than the set before, so each is made before its turn comes.
+    fn of_clauses(clauses: &[[u8; 5]], items: u8) -> Result<Trial, Refusal> {
+        judge_clauses(clauses, items)?;
+        let mut trial = Trial::of_empty_set(items);
+        for set in 0..32 {
+            if trial.is_state(set) {
+                for item in (0..items).filter(|&item| can_be_added(clauses, item, set)) {
+                    trial.mark(set | bit(item));
+                }
             }
         }
         Ok(trial)
     }
 
-    // From the empty set on, each item is added to each set that it can be added to. A set that is made so has a larger
-    // number than the set before, so each is made before its turn comes.
-    fn by_additions(record: &[u8], shape: Shape) -> Trial {
-        let mut trial = Trial::of_empty_set(shape.items);
-        for set in 0..32 {
-            if trial.is_state(set) {
-                for item in 0..shape.items {
-                    if can_be_added(record, shape, item, set) {
-                        trial.mark(set | bit(item));
-                    }
-                }
-            }
-        }
-        trial
-    }
-
     // Row by row, each union so far is joined with each beginning of the row.
-    fn by_unions(record: &[u8], shape: Shape) -> Trial {
-        let mut trial = Trial::of_empty_set(shape.items);
-        for k in 0..shape.rows {
+    fn of_orders(rows: &[u8], items: u8) -> Result<Trial, Refusal>
+        requires { 0 < items }
+    {
+        let len = usize::from(items);
+        let mut trial = Trial::of_empty_set(items);
+        for (k, order) in rows.chunks_exact(len).enumerate() {
+            if !is_right_order(order, items) {
+                return Err(Refusal::WrongRow((k * len) as u64));
+            }
             let so_far = trial;
-            for set in 0..32 {
-                if so_far.is_state(set) {
-                    trial.join_beginnings(record, k as usize, set);
-                }
+            for set in (0..32).filter(|&set| so_far.is_state(set)) {
+                trial.join_beginnings(order, set);
             }
         }
-        trial
+        Ok(trial)
     }
 
-    fn join_beginnings(&mut self, record: &[u8], k: usize, set: u32) {
+    fn join_beginnings(&mut self, order: &[u8], set: u32) {
         let mut joined = set;
         self.mark(joined);
-        for place in 0..self.items {
-            joined |= bit(order_item(record, self.items, k, place));
+        for item in order {
+            joined |= bit(*item);
             self.mark(joined);
         }
     }
@@ -96,8 +100,8 @@ impl Trial {
     fn mark(&mut self, set: u32)
         ensures { self.new.items ≡ self.old.items }
     {
-        if set < 32 {
-            self.family[set as usize] = true;
+        if let Some(state) = self.family.get_mut(set as usize) {
+            *state = true;
         }
     }
 
@@ -116,212 +120,145 @@ impl Trial {
     }
 
     // What follows from the family.
-    pub fn answer(&self, question: Question) -> Answer
-        ensures { (set : ℕ) → question ≡ IsState set → 32 ≤ set → result ≡ Truth false }
+    pub fn answer(&self, question: Question) -> Result<Answer, Refusal>
+        ensures { (set : ℕ) → question ≡ IsState set → 32 ≤ set → result ≡ Ok (Truth false) }
     {
         match question {
-            Question::Items => Answer::Set(self.sets().saturating_sub(1)),
-            Question::IsState(set) => Answer::Truth(self.is_state(set)),
-            Question::LargestInside(set) => Answer::Set(self.largest_inside(set)),
+            Question::Items => Ok(Answer::Set(self.sets().saturating_sub(1))),
+            Question::IsState(set) => Ok(Answer::Truth(self.is_state(set))),
+            Question::LargestInside(set) => Ok(Answer::Set(self.largest_inside(set))),
             Question::InnerFringe(set) => self.fringe(set, set),
             Question::OuterFringe(set) => self.fringe(set, !set),
-            Question::SameByFringes(a, b) => self.same(a, b),
+            Question::SameByFringes(a, b) => {
+                self.require_state(a)?;
+                self.require_state(b)?;
+                Ok(Answer::Truth(a == b))
+            }
         }
     }
 
     fn is_state(&self, set: u32) -> bool
         ensures { 32 ≤ set → result ≡ false }
     {
-        set < 32 && self.family[set as usize]
+        self.family.get(set as usize).is_some_and(|&state| state)
+    }
+
+    fn require_state(&self, set: u32) -> Result<(), Refusal> {
+        if !self.is_state(set) {
+            return Err(Refusal::NoState(u64::from(set)));
+        }
+        Ok(())
     }
 
     // The union of all states inside the set.
     fn largest_inside(&self, set: u32) -> u32 {
-        let mut union = 0;
-        for state in 0..32 {
-            if self.is_state(state) && state & !set == 0 {
-                union |= state;
-            }
-        }
-        union
+        (0..32)
+            .filter(|&state| self.is_state(state) && state & !set == 0)
+            .fold(0, |union, state| union | state)
     }
 
     // The items among some whose removal from a state, or whose addition to it, gives a state again.
-    fn fringe(&self, set: u32, among: u32) -> Answer {
-        if !self.is_state(set) {
-            return no_state(set);
-        }
-        let mut fringe = 0;
-        for item in 0..self.items {
-            if among & bit(item) != 0 && self.is_state(set ^ bit(item)) {
-                fringe |= bit(item);
-            }
-        }
-        Answer::Set(fringe)
-    }
-
-    fn same(&self, a: u32, b: u32) -> Answer {
-        if !self.is_state(a) {
-            return no_state(a);
-        }
-        if !self.is_state(b) {
-            return no_state(b);
-        }
-        Answer::Truth(a == b)
+    fn fringe(&self, set: u32, among: u32) -> Result<Answer, Refusal> {
+        self.require_state(set)?;
+        let fringe = (0..self.items)
+            .map(bit)
+            .filter(|&item| among & item != 0 && self.is_state(set ^ item))
+            .fold(0, |fringe, item| fringe | item);
+        Ok(Answer::Set(fringe))
     }
 }
 
 // Whether an alternative of the item lies wholly inside the set.
-fn can_be_added(record: &[u8], shape: Shape, item: u8, set: u32) -> bool {
-    for k in 0..shape.rows {
-        let alternative = clause_alternative(record, k as usize);
-        if clause_item(record, k as usize) == item && alternative & !set == 0 {
-            return true;
-        }
-    }
-    false
+fn can_be_added(clauses: &[[u8; 5]], item: u8, set: u32) -> bool {
+    clauses.iter().any(|clause| clause[0] == item && alternative(clause) & !set == 0)
 }
 
-fn no_state(set: u32) -> Answer {
-    Answer::Refused(Refused {
-        number: 16,
-        layer: Layer::Listing,
-        place: u64::from(set),
-    })
+// What sets the kinds apart is stated here, and `Kind` is not asked for it, since what that tells is compared.
+
+// The byte by which a record says its kind.
+pub fn kind_byte(kind: Kind) -> u8
+    ensures { result ≡ elim kind [ Clauses ↦ 67 | Orders ↦ 79 ] }
+{
+    match kind {
+        Kind::Clauses => b'C',
+        Kind::Orders => b'O',
+    }
 }
 
-// The two kinds of table.
-#[derive(Clone, Copy)]
-pub enum Kind {
-    Clauses,
-    Orders,
+fn most_rows(kind: Kind) -> u16 {
+    match kind {
+        Kind::Clauses => 120,
+        Kind::Orders => 16,
+    }
 }
 
-// What a right trailer says.
-#[derive(Clone, Copy)]
-struct Shape {
-    items: u8,
-    rows: u32,
+// How many bytes a row has.
+pub fn row_len(kind: Kind, items: u8) -> u8
+    ensures { result ≡ elim kind [ Clauses ↦ 5 | Orders ↦ items ] }
+{
+    match kind {
+        Kind::Clauses => 5,
+        Kind::Orders => items,
+    }
 }
 
-impl Kind {
-    // The byte by which a record says its kind.
-    pub fn code(self) -> u8
-        ensures { result ≡ elim self [ Clauses ↦ 67 | Orders ↦ 79 ] }
-    {
-        match self {
-            Kind::Clauses => 67,
-            Kind::Orders => 79,
-        }
+// The rows of a record, and what its trailer says, or the refusal of the first field that is wrong.
+fn read_trailer(kind: Kind, bytes: &[u8]) -> Result<(&[u8], Trailer), Refusal>
+    ensures short { length bytes.now < 8 → result ≡ Err (ShortRecord (length bytes.now)) }
+    ensures some_items { IfOk result (λ p. 0 < p.1.items) }
+{
+    let Some((rows, &[code, items, r0, r1, d0, d1, d2, d3])) = bytes.split_last_chunk::<8>() else {
+        return Err(Refusal::ShortRecord(bytes.len() as u64));
+    };
+    let trailer = Trailer {
+        items,
+        rows: u16::from_le_bytes([r0, r1]),
+    };
+    let distance = u32::from_le_bytes([d0, d1, d2, d3]);
+    let place = rows.len() as u64;
+    if code != kind_byte(kind) {
+        return Err(Refusal::WrongKind(place));
     }
+    if !(1..=30).contains(&items) {
+        return Err(Refusal::WrongItemCount(place + 1));
+    }
+    if !(1..=most_rows(kind)).contains(&trailer.rows) {
+        return Err(Refusal::WrongRowCount(place + 2));
+    }
+    let length = u32::from(trailer.rows) * u32::from(row_len(kind, items));
+    if distance != length || u64::from(distance) != place {
+        return Err(Refusal::WrongDistance(place + 4));
+    }
+    Ok((rows, trailer))
+}
 
-    // What the record spells, or its refusal: the trailer is judged field by field, then the rows from the first on.
-    fn judge(self, bytes: &[u8]) -> Result<Shape, Refused>
-        ensures { length bytes.now < 8 → is_ok result ≡ false }
-    {
-        let shape = self.judge_trailer(bytes)?;
-        for k in 0..shape.rows {
-            if !self.is_right_row(bytes, shape.items, k) {
-                let place = u64::from(k).wrapping_mul(u64::from(self.row_len(shape.items)));
-                return Err(Refused::record(6, place));
-            }
-        }
-        Ok(shape)
-    }
-
-    fn judge_trailer(self, bytes: &[u8]) -> Result<Shape, Refused>
-        ensures { length bytes.now < 8 → is_ok result ≡ false }
-    {
-        let Some(start) = bytes.len().checked_sub(8) else {
-            return Err(Refused::record(1, bytes.len() as u64));
-        };
-        let items = byte(bytes, start.wrapping_add(1));
-        let rows = spelled(bytes, start.wrapping_add(2), 2);
-        let distance = spelled(bytes, start.wrapping_add(4), 4);
-        let place = start as u64;
-        if byte(bytes, start) != self.code() {
-            return Err(Refused::record(2, place));
-        }
-        if items == 0 || items > 30 {
-            return Err(Refused::record(3, place.wrapping_add(1)));
-        }
-        if rows == 0 || rows > self.most_rows() {
-            return Err(Refused::record(4, place.wrapping_add(2)));
-        }
-        let length = rows.wrapping_mul(self.row_len(items));
-        if distance != length || u64::from(distance) != place {
-            return Err(Refused::record(5, place.wrapping_add(4)));
-        }
-        Ok(Shape { items, rows })
-    }
-
-    fn most_rows(self) -> u32 {
-        match self {
-            Kind::Clauses => 120,
-            Kind::Orders => 16,
+// The first wrong clause is refused.
+fn judge_clauses(clauses: &[[u8; 5]], items: u8) -> Result<(), Refusal> {
+    for (k, clause) in clauses.iter().enumerate() {
+        if !is_right_clause(clause, &clauses[..k], items) {
+            return Err(Refusal::WrongRow(5 * k as u64));
         }
     }
-
-    fn row_len(self, items: u8) -> u32 {
-        match self {
-            Kind::Clauses => 5,
-            Kind::Orders => u32::from(items),
-        }
-    }
-
-    fn is_right_row(self, bytes: &[u8], items: u8, k: u32) -> bool {
-        match self {
-            Kind::Clauses => is_right_clause(bytes, items, k as usize),
-            Kind::Orders => is_right_order(bytes, items, k as usize),
-        }
-    }
+    Ok(())
 }
 
 // A clause has an item of the table, not below that of the row before, fewer than four rows before it have the same item,
 // and its alternative is a set of other items of the table.
-fn is_right_clause(bytes: &[u8], items: u8, k: usize) -> bool {
-    let item = clause_item(bytes, k);
-    let alternative = clause_alternative(bytes, k);
-    let rises = k == 0 || clause_item(bytes, k.wrapping_sub(1)) <= item;
-    let mut same = 0u32;
-    for earlier in 0..k {
-        if clause_item(bytes, earlier) == item {
-            same = same.saturating_add(1);
-        }
-    }
+fn is_right_clause(clause: &[u8; 5], before: &[[u8; 5]], items: u8) -> bool {
+    let item = clause[0];
+    let alternative = alternative(clause);
+    let rises = before.last().is_none_or(|last| last[0] <= item);
+    let same = before.iter().filter(|row| row[0] == item).count();
     item < items && rises && same < 4 && alternative < bit(items) && alternative & bit(item) == 0
 }
 
+fn alternative([_, a0, a1, a2, a3]: &[u8; 5]) -> u32 {
+    u32::from_le_bytes([*a0, *a1, *a2, *a3])
+}
+
 // An order has every item of the table. As it is as long as there are items, it has none twice and no other.
-fn is_right_order(bytes: &[u8], items: u8, k: usize) -> bool {
-    for item in 0..items {
-        let mut stands = false;
-        for place in 0..items {
-            stands = stands || order_item(bytes, items, k, place) == item;
-        }
-        if !stands {
-            return false;
-        }
-    }
-    true
-}
-
-// The item of clause `k`.
-fn clause_item(bytes: &[u8], k: usize) -> u8
-    ensures { 5 * k < length bytes.now → result ≡ slice_index bytes.now (5 * k) }
-{
-    byte(bytes, k.wrapping_mul(5))
-}
-
-// The alternative of clause `k`.
-fn clause_alternative(bytes: &[u8], k: usize) -> u32 {
-    spelled(bytes, k.wrapping_mul(5).wrapping_add(1), 4)
-}
-
-// The item at a place of order `k`.
-fn order_item(bytes: &[u8], items: u8, k: usize, place: u8) -> u8 {
-    let start = k.wrapping_mul(usize::from(items));
-    byte(bytes, start.wrapping_add(usize::from(place)))
+fn is_right_order(order: &[u8], items: u8) -> bool {
+    (0..items).all(|item| order.contains(&item))
 }
 
 // The set number of one item, or of none where a set number cannot hold it.
@@ -329,22 +266,4 @@ fn bit(item: u8) -> u32
     ensures { item < 32 → result ≡ 2 ^ item }
 {
     if item < 32 { 1 << item } else { 0 }
-}
-
-fn byte(bytes: &[u8], at: usize) -> u8
-    ensures { at < length bytes.now → result ≡ slice_index bytes.now at }
-{
-    if at < bytes.len() { bytes[at] } else { 0 }
-}
-
-// The number that `len` bytes spell, low byte first.
-fn spelled(bytes: &[u8], at: usize, len: usize) -> u32 {
-    let mut number = 0u32;
-    let mut worth = 1u32;
-    for k in 0..len {
-        let part = worth.wrapping_mul(u32::from(byte(bytes, at.wrapping_add(k))));
-        number = number.wrapping_add(part);
-        worth = worth.wrapping_mul(256);
-    }
-    number
 }
