@@ -29,7 +29,8 @@ pub trait Table: Sized + Drop {
     fn fresh() -> Self
         ensures { is_fresh result };
 
-    // The table that a record spells, or the refusal of the record.
+    // The table that a record spells, or the refusal of the record. Each sort reads the trailer itself: a body here would need a
+    // public call for the rows alone, which asks for a right trailer.
     fn read(bytes: &[u8]) -> Result<Self, Refusal>
         ensures { MatchResult result (spelled bytes.now) (λ e. refused bytes.now (report e)) };
 
