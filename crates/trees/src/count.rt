@@ -7,6 +7,7 @@ use crate::walk;
 
 // The number of wanted nodes, as far as 64 bits can hold it.
 pub fn count<T: Tree>(tree: &T) -> u64
+    requires { T.sound tree.now }
     ensures { Counted (T.shape tree.now) result }
 {
     let mut count = 0u64;

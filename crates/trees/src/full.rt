@@ -16,6 +16,7 @@ fn one_tray<T: Tree, K: Sink<T::Node>>(
     places: &mut [T::Node],
     sink: &mut K,
 ) -> Result<Option<T::Node>, Stopped<K::Error>>
+    requires sound { T.sound tree.now }
     requires size { RightSize (length places.old) }
     requires node { IfSome after (T.shape tree.now).wanted }
     ensures ok { IfOk result (OneTray (T.shape tree.now) K.takes after sink.old sink.new) }

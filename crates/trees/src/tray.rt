@@ -42,6 +42,7 @@ impl<'a, E: Copy> Tray<'a, E> {
 
     // Writes the first wanted nodes of the tree, or the first ones after a given wanted node, until places or nodes end.
     pub fn list<T: Tree<Node = E>>(&mut self, tree: &T, after: Option<E>) -> Result<Listed, Refusal>
+        requires { T.sound tree.now }
         ensures { ListedInto (T.shape tree.now) T.number after self.old.places.now result self.new.places.now }
     {
         self.check_size()?;
@@ -52,6 +53,7 @@ impl<'a, E: Copy> Tray<'a, E> {
 
 // Refuses to go on after what is not a wanted node.
 fn check_after<T: Tree>(tree: &T, after: Option<T::Node>) -> Result<(), Refusal>
+    requires { T.sound tree.now }
     ensures { MatchResult result (λ _. IfSome after (T.shape tree.now).wanted) (NotWanted (T.shape tree.now) T.number after) }
 {
     match after {
@@ -62,7 +64,8 @@ fn check_after<T: Tree>(tree: &T, after: Option<T::Node>) -> Result<(), Refusal>
 
 // Writes the first nodes that are due into the places, until places or nodes end.
 fn fill<T: Tree>(tree: &T, after: Option<T::Node>, places: &mut [T::Node]) -> Listed
-    requires { IfSome after (IsNode (T.shape tree.now)) }
+    requires sound { T.sound tree.now }
+    requires node { IfSome after (IsNode (T.shape tree.now)) }
     ensures { Written (T.shape tree.now) after places.old result places.new }
 {
     let mut next = walk::first_due(tree, after);

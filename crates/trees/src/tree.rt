@@ -9,6 +9,9 @@ use item_sets::Item;
 pub trait Tree {
     type Node: Copy;
 
+    // What makes a value a tree, as that its fields fit each other. A type whose every value is one leaves it out.
+    ghost sound: { Self → Type 0 } = { λ _. Unit {0} };
+
     // Which values are nodes, for which words they stand, and which of them are wanted.
     ghost shape: { Self → Shape Self.Node };
 
@@ -16,21 +19,26 @@ pub trait Tree {
     ghost number: { Self.Node → ℕ };
 
     fn root(&self) -> Self::Node
+        requires { sound self.now }
         ensures { (shape self.now).stands result [] };
 
     fn is_node(&self, node: Self::Node) -> bool
+        requires { sound self.now }
         ensures { IsTrue result ↔ IsNode (shape self.now) node };
 
     // Whether the value is a node, and wanted.
     fn is_wanted(&self, node: Self::Node) -> bool
+        requires { sound self.now }
         ensures { IsTrue result ↔ (shape self.now).wanted node };
 
     // The node one letter further, if there is one.
     fn child(&self, node: Self::Node, letter: Item) -> Option<Self::Node>
+        requires { sound self.now }
         ensures { Child (shape self.now) node letter result };
 
     // The node one letter shorter, and the letter dropped; the root has none.
     fn parent(&self, node: Self::Node) -> Option<(Self::Node, Item)>
+        requires { sound self.now }
         ensures { Parent (shape self.now) node result };
 
     fn number(node: Self::Node) -> u64

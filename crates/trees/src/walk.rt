@@ -13,6 +13,7 @@ const LETTERS: Item = 30;
 
 // The first node one letter further, of those with a letter not below `least`.
 fn first_child<T: Tree>(tree: &T, node: T::Node, least: Item) -> Option<T::Node>
+    requires { T.sound tree.now }
     ensures { FirstChild (T.shape tree.now) node least result }
 {
     // Not `find_map`: the proof that what it finds has the least letter did not close.
@@ -26,7 +27,8 @@ fn first_child<T: Tree>(tree: &T, node: T::Node, least: Item) -> Option<T::Node>
 
 // The next node in listing order: the first child, or else a later child of a node on the way to the root.
 fn next_node<T: Tree>(tree: &T, node: T::Node) -> Option<T::Node>
-    requires { IsNode (T.shape tree.now) node }
+    requires sound { T.sound tree.now }
+    requires node { IsNode (T.shape tree.now) node }
     ensures { FirstOf (T.shape tree.now) (After (T.shape tree.now) node) result }
 {
     if let Some(child) = first_child(tree, node, 0) {
@@ -44,7 +46,8 @@ fn next_node<T: Tree>(tree: &T, node: T::Node) -> Option<T::Node>
 
 // The next wanted node.
 pub(crate) fn next_wanted<T: Tree>(tree: &T, node: T::Node) -> Option<T::Node>
-    requires { IsNode (T.shape tree.now) node }
+    requires sound { T.sound tree.now }
+    requires node { IsNode (T.shape tree.now) node }
     ensures { FirstOf (T.shape tree.now) (Due (T.shape tree.now) (Some node)) result }
 {
     let mut last = node;
@@ -59,7 +62,8 @@ pub(crate) fn next_wanted<T: Tree>(tree: &T, node: T::Node) -> Option<T::Node>
 
 // The first node that is due: of all wanted nodes, or of those after a given one.
 pub(crate) fn first_due<T: Tree>(tree: &T, after: Option<T::Node>) -> Option<T::Node>
-    requires { IfSome after (IsNode (T.shape tree.now)) }
+    requires sound { T.sound tree.now }
+    requires node { IfSome after (IsNode (T.shape tree.now)) }
     ensures { FirstOf (T.shape tree.now) (Due (T.shape tree.now) after) result }
 {
     match after {

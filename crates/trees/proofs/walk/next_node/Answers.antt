@@ -4,10 +4,10 @@ use Rattle.trees.proofs.walk.next_node.Goals as goal
 
 pub returns-in-Some : goal.returns-in-Some
 returns-in-Some g c =
-    child_next (g.met.T.Tree.laws c.args.tree.now) c.args.node c.in-Some.child c.requires.0 c.requires.1 c.in-Some.ensures
+    child_next (g.met.T.Tree.laws c.args.tree.now) c.args.node c.in-Some.child c.requires.node.0 c.requires.node.1 c.in-Some.ensures
 
 pub loop-parent-init : goal.loop-parent-init
-loop-parent-init g c = climbing (g.met.T.Tree.laws c.args.tree.now) c.requires c.in_default.ensures
+loop-parent-init g c = climbing (g.met.T.Tree.laws c.args.tree.now) c.requires.node c.in_default.ensures
 
 pub overflow_add-letter : goal.overflow_add-letter
 overflow_add-letter g c =
