@@ -3,7 +3,7 @@
 use Rattle.std.proofs.Common.{◌≡◌, ℕ, suc, ◌+◌, ◌-◌, ◌^◌, ◌<◌, min, List, [], ◌∷◌, ◌++◌, length, Some, None, Option, sym, refl, subst, ⊎_elim, suc-le-suc, zero-lt-suc, arith}
 use Rattle.std.proofs.lemmas.List.{length_push}
 use Rattle.std.proofs.lemmas.List.Elements.{All-contains}
-use Rattle.trees.specs.Listings.{Due, Listing, FullListing, Counted}
+use Rattle.trees.specs.Listings.{Due, Listing, Left, FullListing, Counted}
 use Rattle.trees.specs.Trees.{Shape, Laws}
 use Rattle.trees.specs.Walking.{FirstOf}
 use Rattle.trees.proofs.Filling.{ListingSoFar, listing_begins, listing_more, none_left}
@@ -20,6 +20,16 @@ pub record CountedSoFar {N : Type 0} {tree : Shape N} (laws : Laws tree) (count 
   pub so_far : ListingSoFar tree None entries next
   pub counted : count ≡ min (length entries) (2 ^ 64 - 1)
 
+-- a listing from the start after which nothing is left
+pub whole_listing : {N : Type 0} {tree : Shape N} (ns : List N) → Listing tree None ns → (Left tree None ns → ⊥) → FullListing tree ns
+whole_listing {N} {tree} ns l none = record {
+  rising = l.rising;
+  exactly = λ n. (
+    λ h. (All-contains (Due tree None) ns n l.due h).0,
+    λ w. ⊎_elim (λ a. a) (λ all. absurd (none (n, (w, tt), all))) (l.none_left_out n (w, tt)),
+  );
+}
+
 pub counting : {N : Type 0} {tree : Shape N} (laws : Laws tree) {next : Option N} → FirstOf tree (Due tree None) next → CountedSoFar laws 0 next
 counting laws first = record { entries = []; so_far = listing_begins first; counted = refl }
 
@@ -31,21 +41,8 @@ module _ {N : Type 0} {tree : Shape N} {laws : Laws tree} {count : ℕ} {next : 
     counted = omega (arith, e, p.counted, length_push p.entries n);
   }
 
-  -- a listing from the start after which nothing is left
   pub counted_all : next ≡ None → Counted tree count
-  counted_all none = (p.entries, whole, p.counted)
-    where
-      l : Listing tree None p.entries
-      l = p.so_far.listing
-
-      whole : FullListing tree p.entries
-      whole = record {
-        rising = l.rising;
-        exactly = λ n. (
-          λ h. (All-contains (Due tree None) p.entries n l.due h).0,
-          λ w. ⊎_elim (λ a. a) (λ all. absurd (none_left p.so_far none (n, (w, tt), all))) (l.none_left_out n (w, tt)),
-        );
-      }
+  counted_all none = (p.entries, whole_listing p.entries p.so_far.listing (none_left p.so_far none), p.counted)
 
 pub ahead_falls : {N : Type 0} {tree : Shape N} (laws : Laws tree) {n : N} {next : Option N} (later : Option N) → next ≡ Some n → FirstOf tree (Due tree (Some n)) later → ahead laws later < ahead laws next
 unfolding ahead

@@ -76,7 +76,7 @@ module _ {N : Type 0} {tree : Shape N} {from : Option N} {ns : List N} where
   none_left p none l = (subst (ListingSoFar tree from ns) none p).first l.0 (l.1, l.2)
 
   -- whether any are left is whether there is a next one
-  left_told : (next : Option N) → ListingSoFar tree from ns next → IsTrue (is_some next) ↔ Left tree from ns
+  pub left_told : (next : Option N) → ListingSoFar tree from ns next → IsTrue (is_some next) ↔ Left tree from ns
   left_told None p = (λ t. absurd (false≢true t), λ l. absurd (none_left p refl l))
   left_told (Some n) p = (λ t. (n, p.first.0.0, p.first.0.1), λ l. refl)
 

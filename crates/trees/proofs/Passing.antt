@@ -1,6 +1,6 @@
 -- Going from node to node until a wanted one is met.
 -- Assumes nothing.
-use Rattle.std.proofs.Common.{◌≡◌, ℕ, ◌-◌, ◌^◌, ◌<◌, ◌↔◌, Bool, true, false, ◌⊎◌, List, [], ◌∷◌, Some, None, IsTrue, Option, sym, ap, subst, inl, inr, ⊎_elim, arith}
+use Rattle.std.proofs.Common.{◌≡◌, ℕ, ◌-◌, ◌^◌, ◌<◌, ◌↔◌, Bool, true, false, ◌⊎◌, List, [], ◌∷◌, IfSome, Some, None, IsTrue, Option, sym, ap, subst, inl, inr, ⊎_elim, arith}
 use Rattle.std.proofs.lemmas.Bool.Decides.{not_from_Decides}
 use Rattle.trees.specs.Listings.{Before, Due}
 use Rattle.trees.specs.Trees.{Shape, Node, Laws}
@@ -41,7 +41,7 @@ module _ {N : Type 0} {tree : Shape N} (laws : Laws tree) where
       omega (arith, remaining_is l w b.2, remaining_is x v b.3)
 
   -- the root comes before every other node
-  root_first : (r k : N) → tree.stands r [] → Node tree k → (k ≡ r) ⊎ Before tree r k
+  pub root_first : (r k : N) → tree.stands r [] → Node tree k → (k ≡ r) ⊎ Before tree r k
   unfolding ◌≺◌
   root_first r k root (([], h)) = inl (laws.one_node k r [] h root)
   root_first r k root ((i ∷ w, h)) = inr ([], i ∷ w, root, h, tt)
@@ -63,6 +63,11 @@ module _ {N : Type 0} {tree : Shape N} (laws : Laws tree) where
       go : (o : Option N) → FirstOf tree (Due tree (Some r)) o → FirstOf tree (Due tree None) o
       go None none = λ m d. none m (d.0, past m d.0)
       go (Some x) next = ((next.0.0, tt), λ k d. next.1 k (d.0, past k d.0))
+
+-- where the node to go on after is wanted, it is a node
+pub wanted_node : {N : Type 0} {tree : Shape N} → Laws tree → (from : Option N) → IfSome from tree.wanted → IfSome from (Node tree)
+wanted_node laws None h = tt
+wanted_node laws (Some n) h = laws.only_nodes n h
 
 module _ {N : Type 0} {tree : Shape N} {laws : Laws tree} {n l : N} (p : Passed laws n l) where
   onward : (x : N) → Before tree l x → Before tree n x

@@ -150,7 +150,7 @@ pub depth : {N : Type 0} {tree : Shape N} → Laws tree → N → ℕ
 depth laws n = elim (laws.settled n) [ yes p ↦ length p.0 | no none ↦ 0 ]
 
 module _ {N : Type 0} {tree : Shape N} (laws : Laws tree) where
-  depth_is : (n : N) (w : List ℕ) → tree.stands n w → depth laws n ≡ length w
+  pub depth_is : (n : N) (w : List ℕ) → tree.stands n w → depth laws n ≡ length w
   unfolding depth
   depth_is n w h =
       elim (laws.settled n) as (λ (d : Dec (Node tree n)). elim d [ yes p ↦ length p.0 | no none ↦ 0 ] ≡ length w) [
