@@ -1,5 +1,7 @@
 // What can be asked of a table, and what comes of it.
-use refusals::Refusal;
+ghost use Rattle.exhaustive.specs.Telling.{Tells};
+
+use refusals::{Layer, Refusal};
 use std::fmt;
 
 #[derive(Clone, Copy)]
@@ -19,9 +21,30 @@ pub enum Answer {
     Truth(bool),
 }
 
-// An answer or a refusal, to be printed.
+// What is told of a refusal: its number, its layer and its place.
+#[derive(Clone, Copy, PartialEq, Eq)]
+pub struct Told {
+    pub number: u8,
+    pub layer: Layer,
+    pub place: u64,
+}
+
+// What the library tells of it.
+impl From<Refusal> for Told {
+    ghost from_gives = { Tells };
+
+    fn from(refusal: Refusal) -> Told {
+        Told {
+            number: refusal.number(),
+            layer: refusal.layer(),
+            place: refusal.place(),
+        }
+    }
+}
+
+// An answer or what is told of a refusal, to be printed.
 #[derive(Clone, Copy)]
-pub struct Reply(pub Result<Answer, Refusal>);
+pub struct Reply(pub Result<Answer, Told>);
 
 impl fmt::Display for Question {
     fn fmt<W: fmt::Write>(&self, f: &mut fmt::Formatter<W>) -> fmt::Result {
@@ -46,11 +69,17 @@ impl fmt::Display for Answer {
     }
 }
 
+impl fmt::Display for Told {
+    fn fmt<W: fmt::Write>(&self, f: &mut fmt::Formatter<W>) -> fmt::Result {
+        write!(f, "refused {} {} {}", self.number, self.layer, self.place)
+    }
+}
+
 impl fmt::Display for Reply {
     fn fmt<W: fmt::Write>(&self, f: &mut fmt::Formatter<W>) -> fmt::Result {
         match self.0 {
             Ok(answer) => write!(f, "{answer}"),
-            Err(refusal) => write!(f, "{refusal}"),
+            Err(told) => write!(f, "{told}"),
         }
     }
 }

@@ -8,19 +8,18 @@ mod trial;
 
 ghost use Rattle.std.specs.Prelude.{◌≡◌, ◌+◌, ◌-◌, ◌^◌, ◌≤◌, ◌↔◌, ◌≢◌, min, false, Ok, IsTrue, MatchResult};
 
-use answer::{Answer, Question, Reply};
+use answer::{Answer, Question, Reply, Told};
 use clauses::ClauseTable;
 use general::General;
 use generator::Generator;
 use item_sets::ItemSet;
 use orders::OrderTable;
 use records::Table;
-use refusals::Refusal;
 use spaces::Space;
 use std::alloc::Global;
 use std::process::ExitCode;
 use std::{fmt, io};
-use trial::Trial;
+use trial::{Trial, told_by_the_rules};
 
 // How many records of each kind are made.
 const RECORDS: u32 = 6000;
@@ -88,7 +87,7 @@ fn report_answers(rt: &HostRuntime, tally: Tally) -> io::Result<()> {
 
 impl Question {
     // What a space of the library answers.
-    fn ask<S: Space>(self, space: &S) -> Result<Answer, Refusal> {
+    fn ask<S: Space>(self, space: &S) -> Result<Answer, Told> {
         let answer = match self {
             Question::Items => Answer::Set(space.items().number),
             Question::IsState(number) => Answer::Truth(space.is_state(ItemSet { number })),
@@ -202,7 +201,7 @@ impl<'a> Examiner<'a> {
     fn put<S: Space>(&mut self, subject: &Subject<'_, S>, question: Question) -> io::Result<()> {
         self.tally.count(question);
         let told = question.ask(subject.space);
-        let expected = subject.trial.answer(question);
+        let expected = subject.trial.answer(question).map_err(told_by_the_rules);
         let asked = Asked {
             question,
             way: subject.way,
@@ -216,8 +215,8 @@ impl<'a> Examiner<'a> {
         &mut self,
         record: &[u8],
         asked: Q,
-        told: Result<Answer, Refusal>,
-        expected: Result<Answer, Refusal>,
+        told: Result<Answer, Told>,
+        expected: Result<Answer, Told>,
     ) -> io::Result<bool>
         ensures agreed { MatchResult result (λ same. IsTrue same ↔ (told ≡ expected)) (λ _. told ≢ expected) }
         ensures counted { result ≡ Ok false → self.new.tally.differences ≡ min (self.old.tally.differences + 1) (2 ^ 64 - 1) }
@@ -277,13 +276,13 @@ struct Counts {
 }
 
 impl Counts {
-    fn count(&mut self, found: Result<Trial, Refusal>) {
+    fn count(&mut self, found: Result<Trial, Told>) {
         self.records = self.records.saturating_add(1);
         match found {
             Ok(trial) => self.states = self.states.saturating_add(states_of(&trial)),
-            Err(refusal) => {
+            Err(told) => {
                 self.refused = self.refused.saturating_add(1);
-                if let Some(count) = self.refused_with.get_mut(usize::from(refusal.number())) {
+                if let Some(count) = self.refused_with.get_mut(usize::from(told.number)) {
                     *count = count.saturating_add(1);
                 }
             }
@@ -318,13 +317,13 @@ impl<T: Table + Space> Survey<T> {
 
     // Loads a record. Where it is right, the table that it spells is compared, else the one that was there before.
     fn load(&mut self, examiner: &mut Examiner<'_>, record: Vec<u8>) -> io::Result<()> {
-        let found = Trial::of(T::KIND, record.as_slice());
+        let found = Trial::of(T::KIND, record.as_slice()).map_err(told_by_the_rules);
         self.counts.count(found);
         let told = self.table.load(record.as_slice());
         let agreed = examiner.agree(
             record.as_slice(),
             "load",
-            told.map(|_| Answer::Loaded),
+            told.map(|_| Answer::Loaded).map_err(Told::from),
             found.map(|_| Answer::Loaded),
         )?;
         if !agreed {

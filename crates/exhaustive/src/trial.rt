@@ -6,10 +6,11 @@ ghost use Rattle.exhaustive.specs.declared.answer.Answer.TheVariants.{Truth};
 ghost use Rattle.exhaustive.specs.declared.answer.Question.TheVariants.{IsState};
 ghost use Rattle.records.specs.declared.Kind.TheVariants.{Clauses, Orders};
 ghost use Rattle.refusals.specs.declared.Refusal.TheVariants.{ShortRecord};
+ghost use Rattle.exhaustive.specs.Telling.{Tells};
 
-use crate::answer::{Answer, Question};
+use crate::answer::{Answer, Question, Told};
 use records::{Kind, Trailer};
-use refusals::Refusal;
+use refusals::{Layer, Refusal};
 
 // Which of the sets of at most five items are states: a flag for each set number. A collection of sets would be no plainer, with
 // a `?` at each that is put in.
@@ -199,6 +200,30 @@ pub fn row_len(kind: Kind, items: u8) -> u8
     match kind {
         Kind::Clauses => 5,
         Kind::Orders => items,
+    }
+}
+
+// What the rules tell of a refusal. It is stated here, and the refusal is not asked, since what that tells is compared.
+pub fn told_by_the_rules(refusal: Refusal) -> Told
+    ensures { Tells refusal result }
+{
+    let (number, layer, place) = match refusal {
+        Refusal::ShortRecord(place) => (1, Layer::Record, place),
+        Refusal::WrongKind(place) => (2, Layer::Record, place),
+        Refusal::WrongItemCount(place) => (3, Layer::Record, place),
+        Refusal::WrongRowCount(place) => (4, Layer::Record, place),
+        Refusal::WrongDistance(place) => (5, Layer::Record, place),
+        Refusal::WrongRow(place) => (6, Layer::Record, place),
+        Refusal::UnbuildableItem(place) => (8, Layer::Table, place),
+        Refusal::NoState(place) => (16, Layer::Listing, place),
+        Refusal::NoRoute(place) => (18, Layer::Listing, place),
+        Refusal::WrongTraySize => (20, Layer::Listing, 0),
+        Refusal::NotWanted(place) => (21, Layer::Listing, place),
+    };
+    Told {
+        number,
+        layer,
+        place,
     }
 }
 
