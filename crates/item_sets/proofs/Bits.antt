@@ -1,11 +1,12 @@
 -- The bits of set numbers: those of a difference, and the lemmas that the laws of sets follow from.
 -- Assumes nothing.
-use Rattle.std.proofs.Common.{◌≡◌, ℕ, ◌-◌, ◌^◌, ◌<◌, arith}
+use Rattle.std.proofs.Common.{◌≡◌, ℕ, zero, suc, ◌-◌, ◌/◌, ◌%◌, ◌^◌, ◌<◌, ◌≢◌, refl, ◌∙◌, pow-suc, arith}
 use Rattle.std.specs.Int.{bit_at}
 use Rattle.std.specs.Prelude.{bit_and, bit_xor}
 use Rattle.std.proofs.lemmas.Nat.{and_assoc, and_comm, and-not}
-use Rattle.std.proofs.lemmas.Nat.Bits.{bit_at_and, bit_at_or, bit_at_xor, bit_at-lt, bit_at-zero, bit_at-pow_same, bit_at-pow_other}
+use Rattle.std.proofs.lemmas.Nat.Bits.{bit_at_lowest, bit_at-suc, bit_at_and, bit_at_or, bit_at_xor, bit_at-lt, bit_at-zero, bit_at-pow_same, bit_at-pow_other}
 use lib.Bits.{and_self, xor_add_and}
+use lib.Count.{count_trailing_zeros, under}
 
 -- nothing is borrowed, so the number that is left has the bits that X has and Y has not
 pub bit_less : (X Y i : ℕ) → bit_at (X - bit_and X Y) i ≡ bit_at X i - bit_at Y i
@@ -20,3 +21,24 @@ and_not k X Y hx hy = omega (arith, and-not k Y X hy hx, and_comm X ((2 ^ k - 1)
 
 -- a bit of an intersection, a union, a difference, the empty set and a single item
 pub ruleset set_bits = (bit_at_and, bit_at_or, bit_less, bit_at-lt, bit_at-zero, bit_at-pow_same, bit_at-pow_other)
+
+-- ---- the lowest bit that is set, of k bits
+
+-- bit t of X is set, and none below it
+abbrev pub LowestSet : ℕ → ℕ → Type 0
+LowestSet X t = (bit_at X t ≡ 1) × ((i : ℕ) → i < t → bit_at X i ≡ 0)
+
+-- it is the first bit of an odd number, and follows from that of the half of an even one
+from_half : (X t d : ℕ) → X ≢ 0 → X % 2 ≡ d → (X / 2 ≢ 0 → LowestSet (X / 2) t) → LowestSet X (under d t)
+from_half X t zero some even half = let low = half (λ e. some (omega arith)) in (bit_at-suc X t ∙ low.0, clear low.1)
+  where
+    clear : ((i : ℕ) → i < t → bit_at (X / 2) i ≡ 0) → (i : ℕ) → i < suc t → bit_at X i ≡ 0
+    clear below zero lt = bit_at_lowest X ∙ even
+    clear below (suc i) lt = bit_at-suc X i ∙ below i (omega arith)
+from_half X t (suc d) some odd half = (omega (arith, bit_at_lowest X, odd), λ i lt. absurd (omega arith))
+
+pub trailing_zeros_lowest : (k X : ℕ) → X ≢ 0 → X < 2 ^ k → LowestSet X (count_trailing_zeros k X)
+unfolding count_trailing_zeros
+trailing_zeros_lowest zero X some fits = absurd (omega arith)
+trailing_zeros_lowest (suc k) X some fits =
+    from_half X (count_trailing_zeros k (X / 2)) (X % 2) some refl (λ rest. trailing_zeros_lowest k (X / 2) rest (omega (arith, pow-suc 2 k)))

@@ -1,14 +1,14 @@
 -- What membership says of set numbers: unions, differences, single items, sizes, and that the members determine the number.
 -- Assumes nothing.
 use Rattle.std.proofs.Common.{◌≡◌, ℕ, zero, suc, ◌+◌, ◌/◌, ◌%◌, ◌^◌, ◌<◌, ◌≤◌, ◌≢◌, ◌⊎◌, ◌↔◌, refl, ap, pow-suc, arith, pow_pos}
-use Rattle.std.specs.Int.{bit_at, trailing_zeros, w32}
+use Rattle.std.specs.Int.{bit_at}
 use Rattle.std.specs.Prelude.{bit_or}
 use Rattle.std.proofs.lemmas.Nat.{le_or_l, shr-shr, shr_split, mod_below}
-use Rattle.std.proofs.lemmas.Nat.Bits.{bit_at_lowest, bit_at-suc, bit_at_ones, bit_at_ones_above, bit_at_above, same_from_bits, bit_at-trailing_zeros}
+use Rattle.std.proofs.lemmas.Nat.Bits.{bit_at_lowest, bit_at-suc, bit_at_ones, bit_at_ones_above, bit_at_above, same_from_bits}
 use native.Mathlib.Decide.{ℕ_discrete}
-use lib.Count.{ones, ones_step}
+use lib.Count.{ones, ones_step, count_trailing_zeros}
 use Rattle.item_sets.specs.Sets.{◌∈◌, ◌∉◌, ◌⊆◌, Members, ◌∪◌, ◌∖◌, ◌⊕◌, ◌⊖◌, first, below, Least}
-use Rattle.item_sets.proofs.Bits.{bit_less, set_bits}
+use Rattle.item_sets.proofs.Bits.{bit_less, set_bits, trailing_zeros_lowest}
 
 pub ∈_dec : (i X : ℕ) → Dec (i ∈ X)
 unfolding ◌∈◌
@@ -99,11 +99,11 @@ pub with-without : (X i : ℕ) → i ∈ X → (X ⊖ i) ⊕ i ≡ X
 with-without X i h = same_members _ _ _ (∈-with (X ⊖ i) i) (λ j. grind (arith, ∈-without X i j))
 
 -- the lowest bit that is set is the least item
-pub trailing_least : (X : ℕ) → X ≢ 0 → X < 2 ^ 32 → Least X (trailing_zeros w32 X)
+pub trailing_least : (k X : ℕ) → X ≢ 0 → X < 2 ^ k → Least X (count_trailing_zeros k X)
 unfolding ◌∈◌
-trailing_least X some fits =
-    let lowest = bit_at-trailing_zeros w32 X (omega arith) fits in
-    (lowest.1, λ j m. grind (arith, lowest.2 j))
+trailing_least k X some fits =
+    let lowest = trailing_zeros_lowest k X some fits in
+    (lowest.0, λ j m. grind (arith, lowest.1 j))
 
 -- ---- bounds: the members are below k exactly when the number is below 2 ^ k
 
@@ -137,12 +137,17 @@ without_lt X i h = part_lt _ X i (λ j m. grind (arith, ∈-without X i j)) h (�
 
 -- ---- how many items there are
 
+pub below_le : (X k : ℕ) → below X k ≤ k
+unfolding below
+below_le X zero = omega arith
+below_le X (suc k) = grind (arith, set_bits, below_le X k)
+
 -- a part has no more of them, and as many only where nothing is missing
 bit_le : (X Y : ℕ) → X ⊆ Y → (k : ℕ) → bit_at X k ≤ bit_at Y k
 unfolding ◌∈◌
 bit_le X Y f k = grind (arith, set_bits, f k)
 
-below_mono : (X Y : ℕ) → X ⊆ Y → (k : ℕ) → below X k ≤ below Y k
+pub below_mono : (X Y : ℕ) → X ⊆ Y → (k : ℕ) → below X k ≤ below Y k
 unfolding below
 below_mono X Y f zero = omega arith
 below_mono X Y f (suc k) = omega (arith, below_mono X Y f k, bit_le X Y f k)

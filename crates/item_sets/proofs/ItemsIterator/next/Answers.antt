@@ -5,6 +5,6 @@ use Rattle.std.proofs.iter.Next.{firm}
 
 pub returns : goal.returns
 returns c =
-    let least = trailing_least c.args.self.now.rest.number c.if-self-eq0.false (search rules) in
+    let least = trailing_least 32 c.args.self.now.rest.number c.if-self-eq0.false (search rules) in
     let rest = c.without-self.ensures.number in
     record { steps = (least, rest); goes = firm ((tt, tt, rw rest (without_lt _ _ least.0))) (λ h. search rules) }
