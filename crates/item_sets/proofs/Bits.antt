@@ -37,34 +37,24 @@ and_not k X Y hx hy = omega (arith, and-not k Y X hy hx, and_comm X ((2 ^ k - 1)
 -- a bit of an intersection, a union, a difference, the empty set and a single item
 pub ruleset set_bits = (bit_at_and, bit_at_or, bit_less, bit_at-lt, bit_at-zero, bit_at-pow_same, bit_at-pow_other)
 
--- ---- the lowest bit that is set, of k bits
+-- ---- the lowest of k bits that is set: the first bit of an odd number, and that of the half of an even one
 
--- bit t of X is set, and none below it
-abbrev pub LowestSet : ℕ → ℕ → Type 0
-LowestSet X t = (bit_at X t ≡ 1) × ((i : ℕ) → i < t → bit_at X i ≡ 0)
+set_by_half : (X t d : ℕ) → X ≢ 0 → X % 2 ≡ d → (X / 2 ≢ 0 → bit_at (X / 2) t ≡ 1) → bit_at X (under d t) ≡ 1
+set_by_half X t zero some even half = bit_at-suc X t ∙ half (λ e. some (omega arith))
+set_by_half X t (suc d) some odd half = omega (arith, bit_at_lowest X, odd)
 
--- no bit below it is set, of any number
-clear_half : (X t d : ℕ) → X % 2 ≡ d → ((i : ℕ) → i < t → bit_at (X / 2) i ≡ 0) → (i : ℕ) → i < under d t → bit_at X i ≡ 0
-clear_half X t zero even below zero lt = bit_at_lowest X ∙ even
-clear_half X t zero even below (suc i) lt = bit_at-suc X i ∙ below i (omega arith)
-clear_half X t (suc d) odd below i lt = absurd (omega arith)
+pub trailing_set : (k X : ℕ) → X ≢ 0 → X < 2 ^ k → bit_at X (count_trailing_zeros k X) ≡ 1
+unfolding count_trailing_zeros
+trailing_set zero X some fits = absurd (omega arith)
+trailing_set (suc k) X some fits =
+    set_by_half X (count_trailing_zeros k (X / 2)) (X % 2) some refl (λ rest. trailing_set k (X / 2) rest (omega (arith, pow-suc 2 k)))
+
+clear_by_half : (X t d : ℕ) → X % 2 ≡ d → ((i : ℕ) → i < t → bit_at (X / 2) i ≡ 0) → (i : ℕ) → i < under d t → bit_at X i ≡ 0
+clear_by_half X t zero even below zero lt = bit_at_lowest X ∙ even
+clear_by_half X t zero even below (suc i) lt = bit_at-suc X i ∙ below i (omega arith)
+clear_by_half X t (suc d) odd below i lt = absurd (omega arith)
 
 pub trailing_clear : (k X i : ℕ) → i < count_trailing_zeros k X → bit_at X i ≡ 0
 unfolding count_trailing_zeros
 trailing_clear zero X i lt = absurd (omega arith)
-trailing_clear (suc k) X i lt = clear_half X (count_trailing_zeros k (X / 2)) (X % 2) refl (trailing_clear k (X / 2)) i lt
-
--- it is the first bit of an odd number, and follows from that of the half of an even one
-from_half : (X t d : ℕ) → X ≢ 0 → X % 2 ≡ d → (X / 2 ≢ 0 → LowestSet (X / 2) t) → LowestSet X (under d t)
-from_half X t zero some even half = let low = half (λ e. some (omega arith)) in (bit_at-suc X t ∙ low.0, clear low.1)
-  where
-    clear : ((i : ℕ) → i < t → bit_at (X / 2) i ≡ 0) → (i : ℕ) → i < suc t → bit_at X i ≡ 0
-    clear below zero lt = bit_at_lowest X ∙ even
-    clear below (suc i) lt = bit_at-suc X i ∙ below i (omega arith)
-from_half X t (suc d) some odd half = (omega (arith, bit_at_lowest X, odd), λ i lt. absurd (omega arith))
-
-pub trailing_zeros_lowest : (k X : ℕ) → X ≢ 0 → X < 2 ^ k → LowestSet X (count_trailing_zeros k X)
-unfolding count_trailing_zeros
-trailing_zeros_lowest zero X some fits = absurd (omega arith)
-trailing_zeros_lowest (suc k) X some fits =
-    from_half X (count_trailing_zeros k (X / 2)) (X % 2) some refl (λ rest. trailing_zeros_lowest k (X / 2) rest (omega (arith, pow-suc 2 k)))
+trailing_clear (suc k) X i lt = clear_by_half X (count_trailing_zeros k (X / 2)) (X % 2) refl (trailing_clear k (X / 2)) i lt

@@ -8,7 +8,7 @@ use Rattle.std.proofs.lemmas.Nat.Bits.{bit_at_lowest, bit_at-suc, bit_at_ones, b
 use native.Mathlib.Decide.{ℕ_discrete}
 use lib.Count.{ones, ones_step, count_trailing_zeros}
 use Rattle.item_sets.specs.Sets.{◌∈◌, ◌∉◌, ◌⊆◌, Members, ◌∪◌, ◌∖◌, ◌⊕◌, ◌⊖◌, first, below, Least}
-use Rattle.item_sets.proofs.Bits.{bit_less, set_bits, trailing_zeros_lowest}
+use Rattle.item_sets.proofs.Bits.{bit_less, set_bits, trailing_set, trailing_clear}
 
 pub ∈_dec : (i X : ℕ) → Dec (i ∈ X)
 unfolding ◌∈◌
@@ -101,9 +101,7 @@ with-without X i h = same_members _ _ _ (∈-with (X ⊖ i) i) (λ j. grind (ari
 -- the lowest bit that is set is the least item
 pub trailing_least : (k X : ℕ) → X ≢ 0 → X < 2 ^ k → Least X (count_trailing_zeros k X)
 unfolding ◌∈◌
-trailing_least k X some fits =
-    let lowest = trailing_zeros_lowest k X some fits in
-    (lowest.0, λ j m. grind (arith, lowest.1 j))
+trailing_least k X some fits = (trailing_set k X some fits, λ j m. grind (arith, trailing_clear k X j))
 
 -- ---- bounds: the members are below k exactly when the number is below 2 ^ k
 
